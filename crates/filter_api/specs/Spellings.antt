@@ -1,10 +1,17 @@
--- What a filter stands for, and the bytes that spell it.
+-- What a trie and a filter stand for, and the bytes that spell it.
 use Rattle.std.specs.Prelude.{◌≡◌, ◌⊎◌, ℕ, ◌≤◌, List}
 use Rattle.byte_fields.specs.Spelling.{IsBytes}
 use Rattle.key_base.specs.Limits.{max_hash_bits, max_real_bits}
 use Rattle.filter_model.specs.Leaves.{Leaf}
 use Rattle.filter_model.specs.Trie.{height}
-use Rattle.filter_model.specs.Valid.{IsValid}
+use Rattle.filter_model.specs.Valid.{IsLeafList, IsValid}
+
+-- two widths and a leaf list that has a trie, and a cutoff from 0 to its height
+pub record MayBeTrie (hash_bits real_bits cutoff : ℕ) (leaves : List Leaf) : Type 0 where
+  pub hash_width : hash_bits ≤ max_hash_bits
+  pub real_width : real_bits ≤ max_real_bits
+  pub cutoff_in : cutoff ≤ height leaves
+  pub valid : IsLeafList hash_bits real_bits leaves
 
 -- two widths and a leaf list for which a filter may stand, and a cutoff with which it may be spelled
 pub record MayStand (hash_bits real_bits cutoff : ℕ) (leaves : List Leaf) : Type 0 where

@@ -13,7 +13,8 @@ use Rattle.byte_fields.specs.Spelling.{IsBytes}
 use Rattle.filter_codec.proofs.Judged.{array_in, image_is, is_image, nodes_same, of_trie, suffixes_at}
 use Rattle.filter_api.specs.declared.errors.DecodeError.{DecodeError}
 use Rattle.filter_api.specs.declared.errors.DecodeError.TheVariants.{Memory}
-use Rattle.filter_codec.specs.Decoding.{AreOfTrie, IsCause, KeepsSections}
+use Rattle.filter_codec.proofs.Within.{any_trie}
+use Rattle.filter_codec.specs.Decoding.{AreOfTrie, IsCauseBy, KeepsSections}
 use Rattle.filter_codec.specs.Judging.{header_in, image_end, places_by}
 use Rattle.filter_codec.specs.Rules.{nodes_rule}
 use Rattle.filter_codec.specs.Tree.{AreSparse, Tree, counts_rule, louds_rule}
@@ -21,11 +22,12 @@ use Rattle.filter_codec.specs.declared.header.Header.{Header}
 use Rattle.filter_codec.specs.declared.header.Places.{Places}
 use Rattle.filter_image_model.proofs.Headers.{KeepsHeader, header_kept}
 use Rattle.filter_image_model.specs.Header.{Bytes, cutoff_in, height_in, leaf_count_in, section, sparse_count_in}
-use Rattle.filter_image_model.specs.Laws.{IsImage}
+use Rattle.filter_image_model.specs.Kinds.{IsKind, Kind}
+use Rattle.filter_image_model.specs.Laws.{IsImageBy}
 use Rattle.filter_image_model.specs.Levels.{are_levels, leaf_count_of, nodes_above}
 use Rattle.filter_image_model.specs.Nodes.{dense_in, sparse_in, sparse_nodes}
 use Rattle.filter_model.specs.Leaves.{Filter}
-use Rattle.filter_image_model.specs.Reading.{image_fault, louds_fault, nodes_rules}
+use Rattle.filter_image_model.specs.Reading.{fault_by, image_head_fault, louds_fault, nodes_rules}
 use Rattle.filter_image_model.specs.Sections.{KeepsBytes}
 use Rattle.filter_model.specs.Nodes.{Node}
 use Rattle.filter_trie.specs.Parts.{AreParts, image_by}
@@ -83,8 +85,11 @@ pub louds_same : (bytes : Bytes) (louds : List Bool) (sparse : ℕ) → louds �
 unfolding louds_fault
 louds_same bytes louds sparse e f = λ j. louds_rule (e j) (f j)
 
-pub keeps : (bytes : Bytes) → KeepsSections bytes → louds_fault bytes ≡ None → KeepsBytes bytes
-keeps bytes k e = record { bytes_are = k.bytes_are; header = k.header; lengths = k.lengths; padding = k.padding; strays = k.strays; louds = e }
+pub keeps : (k : Kind) (bytes : Bytes) → IsKind k → KeepsSections k bytes → louds_fault bytes ≡ None → KeepsBytes bytes
+keeps k bytes kind s e = record { bytes_are = s.bytes_are; header = any_trie k bytes kind s.header; lengths = s.lengths; padding = s.padding; strays = s.strays; louds = e }
+
+pub head_kept : (k : Kind) (bytes : Bytes) → IsKind k → image_head_fault k.hash_bits k.real_bits bytes ≡ None → KeepsHeader bytes
+head_kept k bytes kind e = header_kept bytes (any_trie k bytes kind e)
 
 abbrev pub array_from : Header → List Bool → ℕ → SuffixArray
 array_from h bits count = record { hash_bits = h.hash_bits; real_bits = h.real_bits; slots = unpacked_suffixes h.hash_bits h.real_bits bits count }
@@ -95,30 +100,27 @@ array_of h bits = array_from h bits h.leaves
 abbrev pub tree_in : Bytes → Tree
 tree_in bytes = record { dense = dense_in bytes; sparse = sparse_in bytes }
 
-module _ (bytes : Bytes) (h : Header) (is : h ≡ header_in bytes) where
+module _ (k : Kind) (bytes : Bytes) (h : Header) (is : h ≡ header_in bytes) where
   pub array_by : (bits : List Bool) → bits ≡ section 6 bytes → array_of h bits ≡ array_in bytes
   array_by bits e = λ j. array_of (is j) (e j)
 
-  pub head_kept : KeepsSections bytes → KeepsHeader bytes
-  head_kept k = header_kept bytes k.header
-
   module _ (p : Places) (places : p ≡ places_by h) (array : SuffixArray) (array_is : array ≡ array_in bytes) (t : Tree) (tree_is : t ≡ tree_in bytes) where
-    pub rule_by : nodes_rule h.height h.cutoff h.leaves p.suffixes array t.dense t.sparse ≡ nodes_rules bytes (dense_in bytes) (sparse_in bytes)
+    pub rule_by : nodes_rule k.alone h.height h.cutoff h.leaves p.suffixes array t.dense t.sparse ≡ nodes_rules k.alone bytes (dense_in bytes) (sparse_in bytes)
     rule_by =
-        (λ j. nodes_rule (is j).height (is j).cutoff (is j).leaves ((places ∙ ap places_by is) j).suffixes (array_is j) (tree_is j).dense (tree_is j).sparse)
-        ∙ nodes_same bytes (places_by (header_in bytes)).suffixes (suffixes_at bytes)
+        (λ j. nodes_rule k.alone (is j).height (is j).cutoff (is j).leaves ((places ∙ ap places_by is) j).suffixes (array_is j) (tree_is j).dense (tree_is j).sparse)
+        ∙ nodes_same k.alone bytes (places_by (header_in bytes)).suffixes (suffixes_at bytes)
 
-    pub trie_by : IsBytes bytes → image_fault bytes ≡ None → AreOfTrie h.height h.cutoff t.dense t.sparse array
-    trie_by are none =
+    pub trie_by : IsKind k → IsBytes bytes → fault_by k bytes ≡ None → AreOfTrie h.height h.cutoff t.dense t.sparse array
+    trie_by kind are none =
         subst (λ (h : Header). AreOfTrie h.height h.cutoff t.dense t.sparse array) (sym is)
         (subst (λ (t : Tree). AreOfTrie (height_in bytes) (cutoff_in bytes) t.dense t.sparse array) (sym tree_is)
-        (subst (λ (a : SuffixArray). AreOfTrie (height_in bytes) (cutoff_in bytes) (dense_in bytes) (sparse_in bytes) a) (sym array_is) (of_trie bytes are none)))
+        (subst (λ (a : SuffixArray). AreOfTrie (height_in bytes) (cutoff_in bytes) (dense_in bytes) (sparse_in bytes) a) (sym array_is) (of_trie k bytes kind are none)))
 
-    pub read_by : IsBytes bytes → image_fault bytes ≡ None → (i : Filter) → i ≡ image_by h.cutoff h.height t.dense t.sparse array → IsImage i bytes
-    read_by are none i e =
+    pub read_by : IsKind k → IsBytes bytes → fault_by k bytes ≡ None → (i : Filter) → i ≡ image_by h.cutoff h.height t.dense t.sparse array → IsImageBy k i bytes
+    read_by kind are none i e =
         let read : i ≡ image_by (cutoff_in bytes) (height_in bytes) (dense_in bytes) (sparse_in bytes) (array_in bytes) =
         e ∙ (λ j. image_by (is j).cutoff (is j).height (tree_is j).dense (tree_is j).sparse (array_is j)) in
-        subst (λ (i : Filter). IsImage i bytes) (sym (read ∙ image_is bytes are none)) (is_image bytes are none)
+        subst (λ (i : Filter). IsImageBy k i bytes) (sym (read ∙ image_is k bytes kind are none)) (is_image k bytes kind are none)
 
 -- ---- numbers that fit
 
@@ -146,6 +148,6 @@ module _ (h : Header) (bits : List Bool) (array : SuffixArray) (e : array ≡ ar
 
 -- ---- want of memory
 
-pub out_of_memory : {T : Type 0} (bytes : Bytes) (result : Result T DecodeError) → IsErrAnd result (λ e. e ≡ Memory) → IfErr result (IsCause bytes)
-out_of_memory bytes (Ok value) is = absurd is
-out_of_memory bytes (Err e) is = subst (IsCause bytes) (sym is) tt
+pub out_of_memory : {T : Type 0} (k : Kind) (bytes : Bytes) (result : Result T DecodeError) → IsErrAnd result (λ e. e ≡ Memory) → IfErr result (IsCauseBy k bytes)
+out_of_memory k bytes (Ok value) is = absurd is
+out_of_memory k bytes (Err e) is = subst (IsCauseBy k bytes) (sym is) tt

@@ -15,20 +15,21 @@ use Rattle.byte_fields.specs.Faults.{Fault, refuse}
 use Rattle.byte_fields.specs.Spelling.{IsBytes}
 use Rattle.filter_api.specs.declared.errors.FilterFault.{FilterFault}
 use Rattle.filter_codec.proofs.Within.{Within, from_length, from_louds, from_padding, from_strays, place_within}
-use Rattle.filter_codec.specs.Decoding.{AreOfTrie, IsFirstFault, KeepsSections}
+use Rattle.filter_codec.specs.Decoding.{AreOfTrie, IsFirstFaultBy, KeepsSections}
 use Rattle.filter_codec.specs.Judging.{header_in, places_by, seen}
 use Rattle.filter_codec.specs.Rules.{ends_rule, labels_place, nodes_rule, real_in_slot, shape_rule}
 use Rattle.filter_codec.specs.Tree.{counts_rule}
-use Rattle.filter_image_model.proofs.ImageRead.{read_again}
+use Rattle.filter_image_model.proofs.ImageRead.{read_again_by, trie_by}
 use Rattle.filter_image_model.proofs.ImageTrie.{read_trie, rules_kept}
 use Rattle.filter_image_model.proofs.ImageWritten.{length_6, suffixes_are}
-use Rattle.filter_image_model.proofs.Validity.{was_written_so}
+use Rattle.filter_image_model.proofs.Validity.{written_by}
 use Rattle.filter_image_model.proofs.Written.{dense_count}
 use Rattle.filter_image_model.specs.Header.{Bytes, cutoff_in, dense_count_in, hash_bits_in, height_in, label_count_in, leaf_count_in, real_bits_in, section, section_bits, section_place, suffix_bits_in}
-use Rattle.filter_image_model.specs.Laws.{IsImage}
+use Rattle.filter_image_model.specs.Kinds.{IsKind, Kind, leaves_beside, leaves_under}
+use Rattle.filter_image_model.specs.Laws.{IsImageBy}
 use Rattle.filter_image_model.specs.Levels.{are_levels, leaf_count_of, leaves_behind, levels_from, nodes_above, root_leaves}
 use Rattle.filter_image_model.specs.Nodes.{dense_in, sparse_in}
-use Rattle.filter_image_model.specs.Reading.{counts_fault, ends_fault, image_fault, image_head_fault, image_in, is_no_root, leaves_in, length_fault, louds_fault, nodes_fault, nodes_rules, padding_fault, shape_fault, slot_letters, slot_suffix, stray_fault}
+use Rattle.filter_image_model.specs.Reading.{counts_fault, ends_fault, fault_by, image_head_fault, image_in, is_no_root, leaves_in, length_fault, louds_fault, nodes_fault, nodes_rules, padding_fault, shape_fault, slot_letters, slot_suffix, stray_fault}
 use Rattle.filter_model.specs.Leaves.{Leaf}
 use Rattle.filter_model.specs.Nodes.{trie_of}
 use Rattle.filter_model.specs.Trie.{END, nodes_to}
@@ -92,11 +93,14 @@ labels_at : (bytes : Bytes) → labels_place (length (dense_in bytes)) ≡ secti
 unfolding section_place section_bits
 labels_at bytes = ap labels_place (dense_count bytes) ∙ place_of (dense_count_in bytes)
 
-shape_same : (bytes : Bytes) → shape_rule (height_in bytes) (leaf_count_in bytes) (dense_in bytes) (sparse_in bytes) ≡ shape_fault bytes (dense_in bytes) (sparse_in bytes)
+shape_same : (alone : Bool) (bytes : Bytes)
+    → shape_rule (height_in bytes) (leaves_under alone (leaf_count_in bytes)) (leaves_beside alone (leaf_count_in bytes)) (dense_in bytes) (sparse_in bytes)
+    ≡ shape_fault alone bytes (dense_in bytes) (sparse_in bytes)
 unfolding shape_fault
-shape_same bytes =
-    λ j. refuse (is_no_root (height_in bytes) (leaf_count_in bytes) (dense_in bytes ++ sparse_in bytes)) 40 9
-    (option_or (nodes_fault (λ n. 32) (leaf_count_in bytes) 40 (dense_in bytes)) (nodes_fault length (leaf_count_in bytes) (labels_at bytes j) (sparse_in bytes)))
+shape_same alone bytes =
+    let L = leaves_beside alone (leaf_count_in bytes) in
+    λ j. refuse (is_no_root (height_in bytes) (leaves_under alone (leaf_count_in bytes)) (dense_in bytes ++ sparse_in bytes)) 40 9
+    (option_or (nodes_fault (λ n. 32) L 40 (dense_in bytes)) (nodes_fault length L (labels_at bytes j) (sparse_in bytes)))
 
 -- ---- rule 8
 
@@ -109,12 +113,12 @@ counts_same bytes =
 
 -- ---- all
 
-pub nodes_same : (bytes : Bytes) (place : ℕ) → place ≡ section_place 6 bytes
-    → nodes_rule (height_in bytes) (cutoff_in bytes) (leaf_count_in bytes) place (array_in bytes) (dense_in bytes) (sparse_in bytes)
-    ≡ nodes_rules bytes (dense_in bytes) (sparse_in bytes)
+pub nodes_same : (alone : Bool) (bytes : Bytes) (place : ℕ) → place ≡ section_place 6 bytes
+    → nodes_rule alone (height_in bytes) (cutoff_in bytes) (leaf_count_in bytes) place (array_in bytes) (dense_in bytes) (sparse_in bytes)
+    ≡ nodes_rules alone bytes (dense_in bytes) (sparse_in bytes)
 unfolding nodes_rules
-nodes_same bytes place e =
-    λ j. option_or (counts_same bytes j) (option_or (shape_same bytes j) (ends_same bytes place 0 (slot_letters (dense_in bytes ++ sparse_in bytes)) e j))
+nodes_same alone bytes place e =
+    λ j. option_or (counts_same bytes j) (option_or (shape_same alone bytes j) (ends_same bytes place 0 (slot_letters (dense_in bytes ++ sparse_in bytes)) e j))
 
 pub suffixes_at : (bytes : Bytes) → (places_by (header_in bytes)).suffixes ≡ section_place 6 bytes
 unfolding section_place section_bits
@@ -126,14 +130,14 @@ suffixes_at bytes = sum_of (dense_count_in bytes) (label_count_in bytes)
 
 -- ---- the first fault
 
-pub no_image : (bytes : Bytes) (f : FilterFault) → IsBytes bytes → image_fault bytes ≡ Some (seen f) → IsFirstFault bytes f
-no_image bytes f are e = record {
-  no_image = λ h r c ls spelled.
-      let none : image_fault bytes ≡ None = (read_again (record { hash_bits = h; real_bits = r; cutoff = c; leaves = ls }) bytes spelled).0 in
+pub no_image : (k : Kind) (bytes : Bytes) (f : FilterFault) → IsKind k → IsBytes bytes → fault_by k bytes ≡ Some (seen f) → IsFirstFaultBy k bytes f
+no_image k bytes f kind are e = record {
+  no_image = λ i spelled.
+      let none : fault_by k bytes ≡ None = (read_again_by k i bytes kind spelled).0 in
       let wrong : None ≡ Some (seen f) = sym none ∙ e in
       cc;
   first = e;
-  place = subst (Within (length bytes)) e (place_within bytes are);
+  place = subst (Within (length bytes)) e (place_within k bytes kind are);
 }
 
 next : (a b : Option Fault) → a ≡ None → option_or a b ≡ b
@@ -142,51 +146,54 @@ next a b e = ap (λ (x : Option Fault). option_or x b) e
 found : (a b : Option Fault) (f : Fault) → Some f ≡ a → option_or a b ≡ Some f
 found a b f e = ap (λ (x : Option Fault). option_or x b) (sym e)
 
-module _ (bytes : Bytes) (are : IsBytes bytes) where
+module _ (k : Kind) (bytes : Bytes) (kind : IsKind k) (are : IsBytes bytes) where
+  abbrev pub head : Option Fault
+  head = image_head_fault k.hash_bits k.real_bits bytes
+
   -- behind rules that are kept
-  behind_head : image_head_fault bytes ≡ None → image_fault bytes ≡ from_length bytes
-  unfolding image_fault
-  behind_head e = next (image_head_fault bytes) (from_length bytes) e
+  behind_head : head ≡ None → fault_by k bytes ≡ from_length k.alone bytes
+  unfolding fault_by
+  behind_head e = next head (from_length k.alone bytes) e
 
-  behind_length : image_head_fault bytes ≡ None → length_fault bytes ≡ None → image_fault bytes ≡ from_padding bytes
-  behind_length e f = behind_head e ∙ next (length_fault bytes) (from_padding bytes) f
+  behind_length : head ≡ None → length_fault bytes ≡ None → fault_by k bytes ≡ from_padding k.alone bytes
+  behind_length e f = behind_head e ∙ next (length_fault bytes) (from_padding k.alone bytes) f
 
-  behind_padding : image_head_fault bytes ≡ None → length_fault bytes ≡ None → padding_fault 40 (section_bits bytes) bytes ≡ None → image_fault bytes ≡ from_strays bytes
-  behind_padding e f g = behind_length e f ∙ next (padding_fault 40 (section_bits bytes) bytes) (from_strays bytes) g
+  behind_padding : head ≡ None → length_fault bytes ≡ None → padding_fault 40 (section_bits bytes) bytes ≡ None → fault_by k bytes ≡ from_strays k.alone bytes
+  behind_padding e f g = behind_length e f ∙ next (padding_fault 40 (section_bits bytes) bytes) (from_strays k.alone bytes) g
 
-  behind_strays : KeepsSections bytes → image_fault bytes ≡ from_louds bytes
-  behind_strays k = behind_padding k.header k.lengths k.padding ∙ next (stray_fault bytes) (from_louds bytes) k.strays
+  behind_strays : KeepsSections k bytes → fault_by k bytes ≡ from_louds k.alone bytes
+  behind_strays kept = behind_padding kept.header kept.lengths kept.padding ∙ next (stray_fault bytes) (from_louds k.alone bytes) kept.strays
 
-  nodes_left : KeepsSections bytes → louds_fault bytes ≡ None → image_fault bytes ≡ nodes_rules bytes (dense_in bytes) (sparse_in bytes)
-  nodes_left k e = behind_strays k ∙ next (louds_fault bytes) (nodes_rules bytes (dense_in bytes) (sparse_in bytes)) e
+  nodes_left : KeepsSections k bytes → louds_fault bytes ≡ None → fault_by k bytes ≡ nodes_rules k.alone bytes (dense_in bytes) (sparse_in bytes)
+  nodes_left kept e = behind_strays kept ∙ next (louds_fault bytes) (nodes_rules k.alone bytes (dense_in bytes) (sparse_in bytes)) e
 
-  pub at_head : (f : FilterFault) → Some (seen f) ≡ image_head_fault bytes → IsFirstFault bytes f
-  unfolding image_fault
-  at_head f e = no_image bytes f are (found (image_head_fault bytes) (from_length bytes) (seen f) e)
+  pub at_head : (f : FilterFault) → Some (seen f) ≡ head → IsFirstFaultBy k bytes f
+  unfolding fault_by
+  at_head f e = no_image k bytes f kind are (found head (from_length k.alone bytes) (seen f) e)
 
-  pub at_length : (f : FilterFault) → image_head_fault bytes ≡ None → Some (seen f) ≡ length_fault bytes → IsFirstFault bytes f
-  at_length f a e = no_image bytes f are (behind_head a ∙ found (length_fault bytes) (from_padding bytes) (seen f) e)
+  pub at_length : (f : FilterFault) → head ≡ None → Some (seen f) ≡ length_fault bytes → IsFirstFaultBy k bytes f
+  at_length f a e = no_image k bytes f kind are (behind_head a ∙ found (length_fault bytes) (from_padding k.alone bytes) (seen f) e)
 
-  pub at_padding : (f : FilterFault) → image_head_fault bytes ≡ None → length_fault bytes ≡ None → Some (seen f) ≡ padding_fault 40 (section_bits bytes) bytes → IsFirstFault bytes f
-  at_padding f a b e = no_image bytes f are (behind_length a b ∙ found (padding_fault 40 (section_bits bytes) bytes) (from_strays bytes) (seen f) e)
+  pub at_padding : (f : FilterFault) → head ≡ None → length_fault bytes ≡ None → Some (seen f) ≡ padding_fault 40 (section_bits bytes) bytes → IsFirstFaultBy k bytes f
+  at_padding f a b e = no_image k bytes f kind are (behind_length a b ∙ found (padding_fault 40 (section_bits bytes) bytes) (from_strays k.alone bytes) (seen f) e)
 
-  pub at_strays : (f : FilterFault) → image_head_fault bytes ≡ None → length_fault bytes ≡ None → padding_fault 40 (section_bits bytes) bytes ≡ None → Some (seen f) ≡ stray_fault bytes → IsFirstFault bytes f
-  at_strays f a b c e = no_image bytes f are (behind_padding a b c ∙ found (stray_fault bytes) (from_louds bytes) (seen f) e)
+  pub at_strays : (f : FilterFault) → head ≡ None → length_fault bytes ≡ None → padding_fault 40 (section_bits bytes) bytes ≡ None → Some (seen f) ≡ stray_fault bytes → IsFirstFaultBy k bytes f
+  at_strays f a b c e = no_image k bytes f kind are (behind_padding a b c ∙ found (stray_fault bytes) (from_louds k.alone bytes) (seen f) e)
 
-  pub at_louds : (f : FilterFault) → KeepsSections bytes → Some (seen f) ≡ louds_fault bytes → IsFirstFault bytes f
-  at_louds f k e = no_image bytes f are (behind_strays k ∙ found (louds_fault bytes) (nodes_rules bytes (dense_in bytes) (sparse_in bytes)) (seen f) e)
+  pub at_louds : (f : FilterFault) → KeepsSections k bytes → Some (seen f) ≡ louds_fault bytes → IsFirstFaultBy k bytes f
+  at_louds f kept e = no_image k bytes f kind are (behind_strays kept ∙ found (louds_fault bytes) (nodes_rules k.alone bytes (dense_in bytes) (sparse_in bytes)) (seen f) e)
 
-  pub at_nodes : (f : FilterFault) → KeepsSections bytes → louds_fault bytes ≡ None → Some (seen f) ≡ nodes_rules bytes (dense_in bytes) (sparse_in bytes) → IsFirstFault bytes f
-  at_nodes f k e nodes = no_image bytes f are (nodes_left k e ∙ sym nodes)
+  pub at_nodes : (f : FilterFault) → KeepsSections k bytes → louds_fault bytes ≡ None → Some (seen f) ≡ nodes_rules k.alone bytes (dense_in bytes) (sparse_in bytes) → IsFirstFaultBy k bytes f
+  at_nodes f kept e nodes = no_image k bytes f kind are (nodes_left kept e ∙ sym nodes)
 
-  pub none_broken : KeepsSections bytes → louds_fault bytes ≡ None → None ≡ nodes_rules bytes (dense_in bytes) (sparse_in bytes) → image_fault bytes ≡ None
-  none_broken k e nodes = nodes_left k e ∙ sym nodes
+  pub none_broken : KeepsSections k bytes → louds_fault bytes ≡ None → None ≡ nodes_rules k.alone bytes (dense_in bytes) (sparse_in bytes) → fault_by k bytes ≡ None
+  none_broken kept e nodes = nodes_left kept e ∙ sym nodes
 
 -- ---- what is read
 
-module _ (bytes : Bytes) (are : IsBytes bytes) (none : image_fault bytes ≡ None) where
-  pub is_image : IsImage (image_in bytes) bytes
-  is_image = was_written_so bytes are none
+module _ (k : Kind) (bytes : Bytes) (kind : IsKind k) (are : IsBytes bytes) (none : fault_by k bytes ≡ None) where
+  pub is_image : IsImageBy k (image_in bytes) bytes
+  is_image = written_by k bytes kind are none
 
   bits_are : array_bits (array_in bytes) ≡ section 6 bytes
   bits_are = packing.packed-unpacked (hash_bits_in bytes) (real_bits_in bytes) (section 6 bytes) (leaf_count_in bytes) (length_6 bytes ∙ sym (turned (suffix_bits_in bytes) (leaf_count_in bytes)))
@@ -209,18 +216,18 @@ module _ (bytes : Bytes) (are : IsBytes bytes) (none : image_fault bytes ≡ Non
   above = length (nodes_to leaves (cutoff_in bytes))
 
   upper_is : upper (cutoff_in bytes) leaves ≡ dense_in bytes
-  upper_is = let t = read_trie bytes (rules_kept bytes are none) in ap (take above) t.trie ∙ take_at (dense_in bytes) (sparse_in bytes) above (sym t.below)
+  upper_is = let t = read_trie bytes (rules_kept k bytes kind are none) in ap (take above) t.trie ∙ take_at (dense_in bytes) (sparse_in bytes) above (sym t.below)
 
   lower_is : lower (cutoff_in bytes) leaves ≡ sparse_in bytes
-  lower_is = let t = read_trie bytes (rules_kept bytes are none) in ap (drop above) t.trie ∙ drop_at (dense_in bytes) (sparse_in bytes) above (sym t.below)
+  lower_is = let t = read_trie bytes (rules_kept k bytes kind are none) in ap (drop above) t.trie ∙ drop_at (dense_in bytes) (sparse_in bytes) above (sym t.below)
 
   parts_are : AreParts (image_in bytes) (cutoff_in bytes) (height_in bytes) (dense_in bytes) (second_half (dense_in bytes) (sparse_in bytes)) (array_in bytes)
   unfolding image_in
   parts_are =
-      let k = rules_kept bytes are none in
-      let t = read_trie bytes k in
+      let kept = rules_kept k bytes kind are none in
+      let t = read_trie bytes kept in
       record {
-        may_stand = is_image.may_stand;
+        may_stand = trie_by k kind (hash_bits_in bytes) (real_bits_in bytes) (cutoff_in bytes) leaves is_image.may_stand;
         cutoff_is = refl;
         levels_are = sym t.height_is;
         dense_is = sym upper_is;
@@ -228,14 +235,14 @@ module _ (bytes : Bytes) (are : IsBytes bytes) (none : image_fault bytes ≡ Non
         hash_bits_are = refl;
         real_bits_are = refl;
         count_is = packing.length-unpacked (hash_bits_in bytes) (real_bits_in bytes) (section 6 bytes) (leaf_count_in bytes) ∙ sym t.count;
-        suffixes_are = bits_are ∙ sym (suffixes_are bytes k);
+        suffixes_are = bits_are ∙ sym (suffixes_are bytes kept);
       }
 
   sparse_form : All IsTrieNode (sparse_in bytes)
   unfolding image_in
   sparse_form =
-      let t = read_trie bytes (rules_kept bytes are none) in
-      let has = valid_lists_have_tries (hash_bits_in bytes) (real_bits_in bytes) leaves is_image.may_stand.valid in
+      let t = read_trie bytes (rules_kept k bytes kind are none) in
+      let has = valid_lists_have_tries (hash_bits_in bytes) (real_bits_in bytes) leaves is_image.may_stand.listed in
       subst (All IsTrieNode) lower_is (All-drop IsTrieNode above (trie_of leaves) (trie_nodes_have_form leaves has))
 
   pub of_trie : AreOfTrie (height_in bytes) (cutoff_in bytes) (dense_in bytes) (sparse_in bytes) (array_in bytes)

@@ -14,14 +14,15 @@ use Rattle.byte_fields.specs.Faults.{Fault, fault, refuse}
 use Rattle.byte_fields.specs.Spelling.{IsBytes}
 use Rattle.filter_codec.proofs.Numbers.{ends_there}
 use Rattle.filter_codec.specs.Judging.{header_in, image_end, numbers_rule}
-use Rattle.filter_image_model.proofs.Headers.{header_kept}
+use Rattle.filter_image_model.proofs.Headers.{header_again, header_kept, widths_kept}
 use Rattle.filter_image_model.proofs.ImageTrie.{counts_kept}
 use Rattle.filter_image_model.proofs.Sections.{place_after-le}
 use Rattle.filter_image_model.proofs.Written.{dense_count, sparse_spelled, whole_length}
 use Rattle.filter_image_model.specs.Header.{Bytes, cutoff_in, dense_count_in, end_place, hash_bits_in, height_in, label_count_in, leaf_count_in, place_after, real_bits_in, section, section_bits, section_place, suffix_bits_in}
+use Rattle.filter_image_model.specs.Kinds.{IsKind, Kind, leaves_beside}
 use Rattle.filter_image_model.specs.Levels.{leaf_count_of}
 use Rattle.filter_image_model.specs.Nodes.{dense_in, sparse_in}
-use Rattle.filter_image_model.specs.Reading.{bytes_fault, counts_fault, ends_fault, has_padding, image_fault, image_head_fault, is_no_node, is_stray, length_fault, louds_fault, nodes_fault, nodes_rules, padding_fault, shape_fault, slot_letters, stray_fault}
+use Rattle.filter_image_model.specs.Reading.{bytes_fault, counts_fault, ends_fault, fault_by, has_padding, image_head_fault, is_no_node, is_stray, length_fault, louds_fault, nodes_fault, nodes_rules, padding_fault, shape_fault, slot_letters, stray_fault}
 use Rattle.filter_image_model.specs.Sections.{KeepsBytes}
 use Rattle.filter_model.specs.Nodes.{Branch, Node, all}
 use Rattle.key_base.specs.Limits.{max_hash_bits, max_key_bytes, max_real_bits}
@@ -53,23 +54,23 @@ numbers_within bytes long =
     refused n ((height_in bytes == 0) || nat_lt max_key_bytes (height_in bytes)) 10 4 cutoff (λ _. omega (arith, long)) (λ _.
     refused n (nat_lt (height_in bytes) (cutoff_in bytes)) 8 4 leaves (λ _. omega (arith, long)) (λ _. refused n (leaf_count_in bytes == 0) 12 4 None (λ _. omega (arith, long)) (λ _. tt)))
 
-widths_within : (bytes : Bytes) → 40 ≤ length bytes
-    → Within (length bytes) (refuse (nat_lt max_hash_bits (hash_bits_in bytes)) 5 3 (refuse (nat_lt max_real_bits (real_bits_in bytes)) 6 3 (option_or (bytes_fault 3 7 (0 ∷ []) bytes) (numbers_rule bytes))))
-widths_within bytes long =
+widths_within : (h r : ℕ) (bytes : Bytes) → 40 ≤ length bytes
+    → Within (length bytes) (refuse (nat_lt h (hash_bits_in bytes)) 5 3 (refuse (nat_lt r (real_bits_in bytes)) 6 3 (option_or (bytes_fault 3 7 (0 ∷ []) bytes) (numbers_rule bytes))))
+widths_within h r bytes long =
     let n = length bytes in
     let zero_byte : Option Fault = option_or (bytes_fault 3 7 (0 ∷ []) bytes) (numbers_rule bytes) in
-    refused n (nat_lt max_hash_bits (hash_bits_in bytes)) 5 3 (refuse (nat_lt max_real_bits (real_bits_in bytes)) 6 3 zero_byte) (λ _. omega (arith, long)) (λ _.
-    refused n (nat_lt max_real_bits (real_bits_in bytes)) 6 3 zero_byte (λ _. omega (arith, long)) (λ _.
+    refused n (nat_lt h (hash_bits_in bytes)) 5 3 (refuse (nat_lt r (real_bits_in bytes)) 6 3 zero_byte) (λ _. omega (arith, long)) (λ _.
+    refused n (nat_lt r (real_bits_in bytes)) 6 3 zero_byte (λ _. omega (arith, long)) (λ _.
     either n (bytes_fault 3 7 (0 ∷ []) bytes) (numbers_rule bytes) (bytes_within 3 7 (0 ∷ []) bytes n (omega (arith, long))) (λ _. numbers_within bytes long)))
 
-head_within : (bytes : Bytes) → Within (length bytes) (image_head_fault bytes)
+head_within : (h r : ℕ) (bytes : Bytes) → Within (length bytes) (image_head_fault h r bytes)
 unfolding image_head_fault
-head_within bytes =
+head_within h r bytes =
     let n = length bytes in
-    let widths : Option Fault = refuse (nat_lt max_hash_bits (hash_bits_in bytes)) 5 3 (refuse (nat_lt max_real_bits (real_bits_in bytes)) 6 3 (option_or (bytes_fault 3 7 (0 ∷ []) bytes) (numbers_rule bytes))) in
+    let widths : Option Fault = refuse (nat_lt h (hash_bits_in bytes)) 5 3 (refuse (nat_lt r (real_bits_in bytes)) 6 3 (option_or (bytes_fault 3 7 (0 ∷ []) bytes) (numbers_rule bytes))) in
     refused n (nat_lt n 40) n 1 (option_or (bytes_fault 2 0 (83 ∷ 85 ∷ 82 ∷ 70 ∷ 1 ∷ []) bytes) widths) (λ _. omega arith) (λ e.
     let long = ltb-false n 40 e in
-    either n (bytes_fault 2 0 (83 ∷ 85 ∷ 82 ∷ 70 ∷ 1 ∷ []) bytes) widths (bytes_within 2 0 (83 ∷ 85 ∷ 82 ∷ 70 ∷ 1 ∷ []) bytes n (omega (arith, long))) (λ _. widths_within bytes (omega (arith, long))))
+    either n (bytes_fault 2 0 (83 ∷ 85 ∷ 82 ∷ 70 ∷ 1 ∷ []) bytes) widths (bytes_within 2 0 (83 ∷ 85 ∷ 82 ∷ 70 ∷ 1 ∷ []) bytes n (omega (arith, long))) (λ _. widths_within h r bytes (omega (arith, long))))
 
 length_within : (bytes : Bytes) → Within (length bytes) (length_fault bytes)
 unfolding length_fault
@@ -175,12 +176,12 @@ unfolding total
 branches [] = refl
 branches (n ∷ ns) = omega (arith, branches ns, length-append n (all ns))
 
-shape_within : (bytes : Bytes) → 40 ≤ length bytes → end_place bytes ≡ length bytes → length (all (sparse_in bytes)) ≡ label_count_in bytes → Within (length bytes) (shape_fault bytes (dense_in bytes) (sparse_in bytes))
+shape_within : (alone : Bool) (bytes : Bytes) → 40 ≤ length bytes → end_place bytes ≡ length bytes → length (all (sparse_in bytes)) ≡ label_count_in bytes → Within (length bytes) (shape_fault alone bytes (dense_in bytes) (sparse_in bytes))
 unfolding shape_fault
-shape_within bytes long whole labels =
+shape_within alone bytes long whole labels =
     let n = length bytes in
     let at = sections_in bytes whole in
-    let L = leaf_count_in bytes in
+    let L = leaves_beside alone (leaf_count_in bytes) in
     refused n _ 40 9 _ (λ _. long) (λ _.
     either n (nodes_fault (λ n. 32) L 40 (dense_in bytes)) _ (nodes_within (λ n. 32) L 40 n (dense_in bytes) (omega (arith, rows (dense_in bytes), dense_count bytes, at.rows))) (λ _.
     nodes_within length L (section_place 3 bytes) n (sparse_in bytes) (omega (arith, branches (sparse_in bytes), labels, at.labels))))
@@ -207,43 +208,51 @@ counts_within : (bytes : Bytes) (n : ℕ) → 40 ≤ n → Within n (counts_faul
 unfolding counts_fault
 counts_within bytes n long = refused n _ 8 8 None (λ _. omega (arith, long)) (λ _. tt)
 
-nodes_rules_within : (bytes : Bytes) → 40 ≤ length bytes → end_place bytes ≡ length bytes → length (all (sparse_in bytes)) ≡ label_count_in bytes
-    → Within (length bytes) (nodes_rules bytes (dense_in bytes) (sparse_in bytes))
+nodes_rules_within : (alone : Bool) (bytes : Bytes) → 40 ≤ length bytes → end_place bytes ≡ length bytes → length (all (sparse_in bytes)) ≡ label_count_in bytes
+    → Within (length bytes) (nodes_rules alone bytes (dense_in bytes) (sparse_in bytes))
 unfolding nodes_rules
-nodes_rules_within bytes long whole labels =
+nodes_rules_within alone bytes long whole labels =
     let n = length bytes in
     let ns = dense_in bytes ++ sparse_in bytes in
     either n (counts_fault bytes ns) _ (counts_within bytes n long) (λ counts.
-    either n (shape_fault bytes (dense_in bytes) (sparse_in bytes)) _ (shape_within bytes long whole labels) (λ _.
+    either n (shape_fault alone bytes (dense_in bytes) (sparse_in bytes)) _ (shape_within alone bytes long whole labels) (λ _.
     let count : length (slot_letters ns) ≡ leaf_count_in bytes = letters_are ns ∙ (counts_kept bytes counts).leaves in
     ends_within bytes 0 n (slot_letters ns) (omega (arith, (sections_in bytes whole).suffixes, ap (λ k. k * suffix_bits_in bytes) (ap (λ k. 0 + k) count ∙ zero_plus (leaf_count_in bytes))))))
   where
     zero_plus : (k : ℕ) → 0 + k ≡ k
     zero_plus k = omega arith
 
--- the rules that follow
-abbrev pub from_louds : Bytes → Option Fault
-from_louds bytes = option_or (louds_fault bytes) (nodes_rules bytes (dense_in bytes) (sparse_in bytes))
+-- the rules that follow, where a leaf may be alone in its node, or may not
+abbrev pub from_louds : Bool → Bytes → Option Fault
+from_louds alone bytes = option_or (louds_fault bytes) (nodes_rules alone bytes (dense_in bytes) (sparse_in bytes))
 
-abbrev pub from_strays : Bytes → Option Fault
-from_strays bytes = option_or (stray_fault bytes) (from_louds bytes)
+abbrev pub from_strays : Bool → Bytes → Option Fault
+from_strays alone bytes = option_or (stray_fault bytes) (from_louds alone bytes)
 
-abbrev pub from_padding : Bytes → Option Fault
-from_padding bytes = option_or (padding_fault 40 (section_bits bytes) bytes) (from_strays bytes)
+abbrev pub from_padding : Bool → Bytes → Option Fault
+from_padding alone bytes = option_or (padding_fault 40 (section_bits bytes) bytes) (from_strays alone bytes)
 
-abbrev pub from_length : Bytes → Option Fault
-from_length bytes = option_or (length_fault bytes) (from_padding bytes)
+abbrev pub from_length : Bool → Bytes → Option Fault
+from_length alone bytes = option_or (length_fault bytes) (from_padding alone bytes)
+
+-- a header that breaks no rule of a kind breaks none of any trie
+pub any_trie : (k : Kind) (bytes : Bytes) → IsKind k → image_head_fault k.hash_bits k.real_bits bytes ≡ None → image_head_fault max_hash_bits max_real_bits bytes ≡ None
+any_trie k bytes kind e =
+    let widths = widths_kept k.hash_bits k.real_bits bytes e in
+    header_again k.hash_bits k.real_bits max_hash_bits max_real_bits bytes e (omega (arith, widths.0, kind.hash_width)) (omega (arith, widths.1, kind.real_width))
 
 -- **the place of the first fault**
-pub place_within : (bytes : Bytes) → IsBytes bytes → Within (length bytes) (image_fault bytes)
-unfolding image_fault
-place_within bytes are =
+pub place_within : (k : Kind) (bytes : Bytes) → IsKind k → IsBytes bytes → Within (length bytes) (fault_by k bytes)
+unfolding fault_by
+place_within k bytes kind are =
     let n = length bytes in
-    either n (image_head_fault bytes) (from_length bytes) (head_within bytes) (λ head.
+    let a = k.alone in
+    either n (image_head_fault k.hash_bits k.real_bits bytes) (from_length a bytes) (head_within k.hash_bits k.real_bits bytes) (λ first.
+    let head = any_trie k bytes kind first in
     let long = (header_kept bytes head).long in
-    either n (length_fault bytes) (from_padding bytes) (length_within bytes) (λ lengths.
+    either n (length_fault bytes) (from_padding a bytes) (length_within bytes) (λ lengths.
     let whole = whole_length bytes lengths in
-    either n (padding_fault 40 (section_bits bytes) bytes) (from_strays bytes) (padding_by bytes whole) (λ padding.
-    either n (stray_fault bytes) (from_louds bytes) (stray_within bytes whole) (λ strays.
-    either n (louds_fault bytes) (nodes_rules bytes (dense_in bytes) (sparse_in bytes)) (louds_within bytes n long) (λ louds.
-    nodes_rules_within bytes long whole (label_count bytes (record { bytes_are = are; header = head; lengths = lengths; padding = padding; strays = strays; louds = louds })))))))
+    either n (padding_fault 40 (section_bits bytes) bytes) (from_strays a bytes) (padding_by bytes whole) (λ padding.
+    either n (stray_fault bytes) (from_louds a bytes) (stray_within bytes whole) (λ strays.
+    either n (louds_fault bytes) (nodes_rules a bytes (dense_in bytes) (sparse_in bytes)) (louds_within bytes n long) (λ louds.
+    nodes_rules_within a bytes long whole (label_count bytes (record { bytes_are = are; header = head; lengths = lengths; padding = padding; strays = strays; louds = louds })))))))

@@ -7,12 +7,17 @@ use Rattle.byte_fields.specs.Faults.{Fault, fault, refuse}
 use Rattle.filter_api.specs.declared.errors.FilterFault.{FilterFault}
 use Rattle.filter_codec.specs.declared.header.Header.{Header}
 use Rattle.filter_codec.specs.declared.header.Places.{Places}
+use Rattle.filter_codec.specs.declared.kind.Kind.{Kind}
 use Rattle.filter_image_model.specs.Header.{Bytes, cutoff_in, dense_count_in, hash_bits_in, height_in, label_count_in, leaf_count_in, real_bits_in, sparse_count_in}
+use Rattle.filter_image_model.specs.Kinds.{Kind as ImageKind}
 use Rattle.filter_image_model.specs.Reading.{is_stray}
 use Rattle.key_base.specs.Limits.{max_key_bytes}
 
 abbrev pub seen : FilterFault → Fault
 seen f = record { place = f.place; rule = f.rule }
+
+abbrev pub kind_seen : Kind → ImageKind
+kind_seen k = record { hash_bits = k.hash_bits; real_bits = k.real_bits; alone = k.alone }
 
 -- the numbers of a header
 abbrev pub header_in : Bytes → Header

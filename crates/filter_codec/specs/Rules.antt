@@ -4,6 +4,7 @@ use Rattle.std.specs.Option.{option_or}
 use Rattle.std.specs.Int.{div_ceil}
 use Rattle.byte_fields.specs.Faults.{Fault, refuse}
 use Rattle.filter_codec.specs.Tree.{counts_rule}
+use Rattle.filter_image_model.specs.Kinds.{leaves_beside, leaves_under}
 use Rattle.filter_image_model.specs.Reading.{is_no_root, nodes_fault, slot_letters}
 use Rattle.filter_model.specs.Nodes.{Node}
 use Rattle.filter_model.specs.Trie.{END}
@@ -13,12 +14,12 @@ use Rattle.suffix_bits.specs.Slots.{SuffixArray}
 abbrev pub labels_place : ℕ → ℕ
 labels_place dense = 40 + 64 * dense + div_ceil dense 8
 
--- the rule on nodes
-abbrev pub shape_rule : ℕ → ℕ → List Node → List Node → Option Fault
-shape_rule height leaves dense sparse =
-    refuse (is_no_root height leaves (dense ++ sparse)) 40 9
-    (option_or (nodes_fault (λ n. 32) leaves 40 dense)
-    (nodes_fault length leaves (labels_place (length dense)) sparse))
+-- the rule on nodes, by the numbers of leaves by which the root and a node are judged
+abbrev pub shape_rule : ℕ → ℕ → ℕ → List Node → List Node → Option Fault
+shape_rule height under beside dense sparse =
+    refuse (is_no_root height under (dense ++ sparse)) 40 9
+    (option_or (nodes_fault (λ n. 32) beside 40 dense)
+    (nodes_fault length beside (labels_place (length dense)) sparse))
 
 -- each label is below the next
 abbrev pub rise : List ℕ → Bool
@@ -43,9 +44,9 @@ ends_rule place array slot (c ∷ cs) =
     refuse ((c == END) && not (real_in_slot array slot == 0)) (place + slot * (array.hash_bits + array.real_bits) / 8) 10
     (ends_rule place array (suc slot) cs)
 
--- the rules 8 to 10 of nodes and suffixes
-abbrev pub nodes_rule : ℕ → ℕ → ℕ → ℕ → SuffixArray → List Node → List Node → Option Fault
-nodes_rule height cutoff leaves place array dense sparse =
+-- the rules 8 to 10 of nodes and suffixes, where a leaf may be alone in its node, or may not
+abbrev pub nodes_rule : Bool → ℕ → ℕ → ℕ → ℕ → SuffixArray → List Node → List Node → Option Fault
+nodes_rule alone height cutoff leaves place array dense sparse =
     option_or (counts_rule height cutoff (length dense) leaves (dense ++ sparse))
-    (option_or (shape_rule height leaves dense sparse)
+    (option_or (shape_rule height (leaves_under alone leaves) (leaves_beside alone leaves) dense sparse)
     (ends_rule place array 0 (slot_letters (dense ++ sparse))))

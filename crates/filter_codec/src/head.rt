@@ -6,10 +6,11 @@ ghost use Rattle.filter_codec.specs.Judging.{header_in, image_end, numbers_rule,
 ghost use Rattle.filter_image_model.specs.Reading.{bytes_fault, image_head_fault, length_fault as length_rules};
 
 use super::header::Header;
+use super::kind::Kind;
 use super::writing::HEADER_BYTES;
 use byte_fields::{get_u16, get_u32, get_u64};
 use filter_api::FilterFault;
-use key_base::{MAX_HASH_BITS, MAX_KEY_BYTES, MAX_REAL_BITS};
+use key_base::MAX_KEY_BYTES;
 
 // A fault at a place of the bytes.
 fn fault(place: usize, rule: u8) -> Option<FilterFault>
@@ -21,10 +22,10 @@ fn fault(place: usize, rule: u8) -> Option<FilterFault>
     })
 }
 
-/// The fault of a header: of the rules 1 to 4, the first that the bytes break.
+/// The fault of a header: of the rules 1 to 4 of a kind, the first that the bytes break.
 #[tactic(auto, unfolding(filter_image_model::specs::Reading::image_head_fault))]
-pub(crate) fn head_fault(bytes: &[u8]) -> Option<FilterFault>
-    ensures { option_map seen result ≡ image_head_fault bytes.now }
+pub(crate) fn head_fault(bytes: &[u8], kind: Kind) -> Option<FilterFault>
+    ensures { option_map seen result ≡ image_head_fault kind.hash_bits kind.real_bits bytes.now }
 {
     if bytes.len() < HEADER_BYTES {
         return fault(bytes.len(), 1);
@@ -32,10 +33,10 @@ pub(crate) fn head_fault(bytes: &[u8]) -> Option<FilterFault>
     if let Some(found) = beginning_fault(bytes) {
         return Some(found);
     }
-    if bytes[5] > MAX_HASH_BITS {
+    if bytes[5] > kind.hash_bits {
         return fault(5, 3);
     }
-    if bytes[6] > MAX_REAL_BITS {
+    if bytes[6] > kind.real_bits {
         return fault(6, 3);
     }
     if bytes[7] != 0 {

@@ -3,6 +3,9 @@
 //! `decode` is exact: a trie only of bytes that are the image of what it stands for, and else the first rule of the format
 //! that they break, and where. It judges the sections as packed bits, and makes no list of nodes.
 //!
+//! `decode_whole` reads tries of whole keys: leaves without bits, any of which may be alone in its node. Both are one reading,
+//! by a kind.
+//!
 //! `encode` copies the sections and takes what `out` lacks for them; without memory `out` stays as it was. `decode` looks
 //! at each section a few times and at each level twice at most, and takes what the sections and the counts over their bits
 //! need, each block once and none by a number that the bytes do not bear. Of the trie that it has judged it then counts the
@@ -22,6 +25,7 @@
 mod ends;
 mod head;
 mod header;
+mod kind;
 mod laws;
 mod levels;
 mod reading;
@@ -30,6 +34,6 @@ mod shape;
 mod tree;
 mod writing;
 
-pub use laws::read_again;
-pub use reading::decode;
+pub use laws::{read_again, read_whole_again};
+pub use reading::{decode, decode_whole};
 pub use writing::encode;

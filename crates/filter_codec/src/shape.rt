@@ -5,6 +5,7 @@ ghost use Rattle.byte_fields.specs.Faults.{fault as fault_at};
 ghost use Rattle.filter_codec.specs.Judging.{seen};
 ghost use Rattle.filter_codec.specs.Rules.{is_wrong, labels_place, rise, shape_rule};
 ghost use Rattle.filter_codec.specs.Tree.{Tree};
+ghost use Rattle.filter_image_model.specs.Kinds.{leaves_beside, leaves_under};
 ghost use Rattle.filter_image_model.specs.Reading.{is_no_node, is_no_root, nodes_fault};
 ghost use Rattle.filter_model.specs.Image.{has_letter};
 ghost use Rattle.filter_model.specs.Trie.{END};
@@ -18,18 +19,39 @@ use std::alloc::Allocator;
 // END as a label.
 const END_LABEL: u8 = 0xFF;
 
-/// The first node that no trie has.
-pub(crate) fn shape_fault<A: Allocator>(header: &Header, packed: &Packed<A>) -> Option<FilterFault>
+/// The first node that no trie of the kind has, where a leaf may be alone in its node, or may not.
+pub(crate) fn shape_fault<A: Allocator>(
+    header: &Header,
+    packed: &Packed<A>,
+    alone: bool,
+) -> Option<FilterFault>
     requires { 0 < length (packed.now.dense ++ packed.now.sparse) }
-    ensures { option_map seen result ≡ shape_rule header.now.height header.now.leaves packed.now.dense packed.now.sparse }
+    ensures { option_map seen result ≡ shape_rule header.now.height (leaves_under alone header.now.leaves) (leaves_beside alone header.now.leaves) packed.now.dense packed.now.sparse }
 {
-    if is_wrong_root(header, packed) {
+    if alone {
+        shape_fault_by(header.height, 0, 1, packed)
+    } else {
+        shape_fault_by(header.height, header.leaves, header.leaves, packed)
+    }
+}
+
+// The first node that no trie has, by the numbers of leaves by which the root and a node are judged.
+fn shape_fault_by<A: Allocator>(
+    height: u16,
+    under: u32,
+    beside: u32,
+    packed: &Packed<A>,
+) -> Option<FilterFault>
+    requires { 0 < length (packed.now.dense ++ packed.now.sparse) }
+    ensures { option_map seen result ≡ shape_rule height under beside packed.now.dense packed.now.sparse }
+{
+    if is_wrong_root(height, under, packed) {
         return fault(HEADER_BYTES);
     }
-    if let Some(found) = rows_fault(header.leaves, packed) {
+    if let Some(found) = rows_fault(beside, packed) {
         return Some(found);
     }
-    labels_fault(header.leaves, packed)
+    labels_fault(beside, packed)
 }
 
 fn fault(place: usize) -> Option<FilterFault>
@@ -42,11 +64,11 @@ fn fault(place: usize) -> Option<FilterFault>
 }
 
 // Whether END is a branch of the root, or there is more than the root for one leaf.
-fn is_wrong_root<A: Allocator>(header: &Header, packed: &Packed<A>) -> bool
+fn is_wrong_root<A: Allocator>(height: u16, leaves: u32, packed: &Packed<A>) -> bool
     requires { 0 < length (packed.now.dense ++ packed.now.sparse) }
-    ensures { result ≡ is_no_root header.now.height header.now.leaves (packed.now.dense ++ packed.now.sparse) }
+    ensures { result ≡ is_no_root height leaves (packed.now.dense ++ packed.now.sparse) }
 {
-    has_end_at_root(packed) || (header.height > 1 && header.leaves == 1)
+    has_end_at_root(packed) || (height > 1 && leaves == 1)
 }
 
 // Whether END is a branch of the root.

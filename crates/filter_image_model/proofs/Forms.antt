@@ -1,5 +1,5 @@
--- The nodes of a valid list's trie have the form of nodes that are read.
-use Rattle.std.proofs.Common.{◌≡◌, ℕ, suc, ◌-◌, ◌<◌, ◌≤◌, true, false, List, [], ◌∷◌, ◌++◌, length, get_or, take, map, refl, sym, ap, ◌∙◌, arith, subst, inl, inr}
+-- The nodes of a leaf list's trie have the form of nodes that are read.
+use Rattle.std.proofs.Common.{◌≡◌, ℕ, suc, ◌-◌, ◌<◌, ◌≤◌, Bool, true, false, List, [], ◌∷◌, ◌++◌, length, get_or, take, map, refl, sym, ap, ◌∙◌, arith, subst, inl, inr}
 use Rattle.std.specs.Prelude.{not}
 use Rattle.std.specs.List.{All, AllByRecursion, AllPairs}
 use Rattle.std.proofs.lemmas.Bool.{cases_Bool, cases_eq, false≢true}
@@ -9,7 +9,7 @@ use Rattle.filter_model.proofs.Crowds.{parent-path}
 use Rattle.filter_model.specs.Leaves.{Leaf}
 use Rattle.filter_model.specs.Nodes.{Branch, Node, last_letter, node_of, trie_of}
 use Rattle.filter_model.specs.Trie.{END, branches, is_node, is_reached, nodes, parent, path}
-use Rattle.filter_model.specs.Valid.{IsCrowded, IsValid}
+use Rattle.filter_model.specs.Valid.{IsCrowded, IsLeafList, IsValid}
 use Rattle.trie_levels.specs.Tries.{HasTrie}
 use Rattle.trie_levels.proofs.Totals.{valid_lists_have_tries}
 use Rattle.trie_model.specs.Letters.{order_of}
@@ -20,6 +20,7 @@ use Rattle.trie_laws.proofs.Forms.{branches_reached, forms_are_sparse, trie_node
 use Rattle.trie_laws.proofs.Paths.{any_leaf, path_node, reached_by}
 use Rattle.trie_laws.proofs.Places.{branches_form}
 use Rattle.trie_laws.proofs.Slots.{prefix_whole}
+use Rattle.filter_image_model.specs.Kinds.{leaves_beside}
 use Rattle.filter_image_model.specs.Nodes.{IsDense}
 use Rattle.filter_image_model.specs.Reading.{is_lone_leaf}
 use Rattle.filter_image_model.proofs.RisingBytes.{ComesFirst, IsByte, RisingBytes, are_bytes, byte_order}
@@ -88,7 +89,7 @@ not_alone ls t w p = go (branches ls p) refl
           absurd (omega (arith, two, ap length e))
     ]
 
--- ---- valid lists
+-- ---- leaf lists
 
 all_formed : (leaves : ℕ) (ns : List Node) → All IsTrieNode ns → (1 < leaves → All (λ n. is_lone_leaf n ≡ false) ns) → AllByRecursion (HasForm leaves) ns
 all_formed leaves [] f w = tt
@@ -97,10 +98,16 @@ all_formed leaves (n ∷ ns) f w = (
   all_formed leaves ns (All-tail IsTrieNode n ns f) (λ m. All-tail (λ k. is_lone_leaf k ≡ false) n ns (w m)),
 )
 
--- **the nodes of a valid list have the form of dense and of sparse nodes, and where there are two leaves none is one leaf alone**
-pub nodes_formed : (h r : ℕ) (ls : List Leaf) → IsValid h r ls → AllByRecursion (HasForm (length ls)) (trie_of ls)
+-- **the nodes of a leaf list have the form of dense and of sparse nodes**
+pub nodes_formed : (h r : ℕ) (ls : List Leaf) → IsLeafList h r ls → AllByRecursion (HasForm 1) (trie_of ls)
 unfolding trie_of
-nodes_formed h r ls v =
+nodes_formed h r ls v = all_formed 1 (trie_of ls) (trie_nodes_have_form ls (valid_lists_have_tries h r ls v)) (λ m. absurd (omega (arith, m)))
+
+-- **and where a leaf may not be alone, and there are two, none is one leaf alone**
+pub nodes_formed_by : (alone : Bool) (h r : ℕ) (ls : List Leaf) → IsLeafList h r ls → (alone ≡ false → IsValid h r ls) → AllByRecursion (HasForm (leaves_beside alone (length ls))) (trie_of ls)
+unfolding trie_of
+nodes_formed_by true h r ls v w = nodes_formed h r ls v
+nodes_formed_by false h r ls v w =
     let t = valid_lists_have_tries h r ls v in
     all_formed (length ls) (trie_of ls) (trie_nodes_have_form ls t)
-    (λ m. All-map (λ n. is_lone_leaf n ≡ false) (node_of ls) (nodes ls) (λ i d l. not_alone ls t (v.crowded m) (get_or (nodes ls) i d)))
+    (λ m. All-map (λ n. is_lone_leaf n ≡ false) (node_of ls) (nodes ls) (λ i d l. not_alone ls t ((w refl).crowded m) (get_or (nodes ls) i d)))

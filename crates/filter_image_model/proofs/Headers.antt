@@ -2,7 +2,7 @@
 use Rattle.std.proofs.Common.{◌≡◌, ℕ, zero, suc, ◌<◌, ◌≤◌, false, List, [], ◌∷◌, ◌++◌, length, take, drop, refl, sym, ap, ◌∙◌, arith, take-add}
 use Rattle.std.specs.Prelude.{◌==◌, ◌||◌, nat_lt, None, slice_index}
 use Rattle.std.proofs.lemmas.List.{length-drop, take-append-drop, drop-drop, append-nil}
-use Rattle.std.proofs.lemmas.Bool.{eqb-true, ltb-false, or_parts}
+use Rattle.std.proofs.lemmas.Bool.{eqb-true, le-ltb, ltb-false, or_parts}
 use Rattle.byteorder.specs.Endian.{little_bytes, little_number}
 use Rattle.byte_fields.specs.Fields.{fields, numbers_in}
 use Rattle.byte_fields.specs.Spelling.{IsBytes}
@@ -11,7 +11,7 @@ use Rattle.byte_fields.proofs.NumberLemmas.{IsBytes-drop}
 use Rattle.filter_image_model.specs.Header.{Bytes, hash_bits_in, real_bits_in, cutoff_in, height_in, leaf_count_in, dense_count_in, sparse_count_in, label_count_in}
 use Rattle.filter_image_model.specs.Sections.{image_head}
 use Rattle.filter_image_model.specs.Reading.{bytes_fault, image_head_fault}
-use Rattle.byte_fields.proofs.FaultLemmas.{kept, neither, not_false}
+use Rattle.byte_fields.proofs.FaultLemmas.{kept, neither, none_of, not_false, passed}
 
 -- the header of the numbers that are read
 abbrev pub head_in : Bytes → Bytes
@@ -49,7 +49,7 @@ some : (n : ℕ) → (n == 0) ≡ false → 0 < n
 some zero e = absurd cc
 some (suc n) e = omega arith
 
-pub header_kept : (bytes : Bytes) → image_head_fault bytes ≡ None → KeepsHeader bytes
+pub header_kept : (bytes : Bytes) → image_head_fault 32 32 bytes ≡ None → KeepsHeader bytes
 unfolding image_head_fault
 header_kept bytes e =
     let r1 = kept (nat_lt (length bytes) 40) _ _ _ e in
@@ -78,6 +78,29 @@ header_kept bytes e =
       cutoff = ltb-false (height_in bytes) (cutoff_in bytes) r7.0;
       some_leaves = some (leaf_count_in bytes) r8.0;
     }
+
+-- by other most widths, which the widths that are read keep, the header breaks no rule either
+pub header_again : (h r g q : ℕ) (bytes : Bytes) → image_head_fault h r bytes ≡ None → hash_bits_in bytes ≤ g → real_bits_in bytes ≤ q → image_head_fault g q bytes ≡ None
+unfolding image_head_fault
+header_again h r g q bytes e hash real =
+    let r1 = kept (nat_lt (length bytes) 40) _ _ _ e in
+    let r2 = neither (bytes_fault 2 0 (83 ∷ 85 ∷ 82 ∷ 70 ∷ 1 ∷ []) bytes) _ r1.1 in
+    let r3 = kept (nat_lt h (hash_bits_in bytes)) _ _ _ r2.1 in
+    let r4 = kept (nat_lt r (real_bits_in bytes)) _ _ _ r3.1 in
+    passed (nat_lt (length bytes) 40) _ _ _ r1.0
+    (none_of (bytes_fault 2 0 (83 ∷ 85 ∷ 82 ∷ 70 ∷ 1 ∷ []) bytes) _ r2.0
+    (passed (nat_lt g (hash_bits_in bytes)) _ _ _ (le-ltb g (hash_bits_in bytes) hash)
+    (passed (nat_lt q (real_bits_in bytes)) _ _ _ (le-ltb q (real_bits_in bytes) real) r4.1)))
+
+-- and these widths it keeps
+pub widths_kept : (h r : ℕ) (bytes : Bytes) → image_head_fault h r bytes ≡ None → (hash_bits_in bytes ≤ h) × (real_bits_in bytes ≤ r)
+unfolding image_head_fault
+widths_kept h r bytes e =
+    let r1 = kept (nat_lt (length bytes) 40) _ _ _ e in
+    let r2 = neither (bytes_fault 2 0 (83 ∷ 85 ∷ 82 ∷ 70 ∷ 1 ∷ []) bytes) _ r1.1 in
+    let r3 = kept (nat_lt h (hash_bits_in bytes)) _ _ _ r2.1 in
+    let r4 = kept (nat_lt r (real_bits_in bytes)) _ _ _ r3.1 in
+    (ltb-false h (hash_bits_in bytes) r3.0, ltb-false r (real_bits_in bytes) r4.0)
 
 -- the numbers behind the first eight bytes
 numbers_are : (bytes : Bytes) → numbers_in (2 ∷ 2 ∷ 4 ∷ 8 ∷ 8 ∷ 8 ∷ []) (drop 8 bytes)

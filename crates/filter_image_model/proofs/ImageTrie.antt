@@ -9,17 +9,18 @@ use Rattle.filter_model.specs.Leaves.{Leaf}
 use Rattle.filter_model.specs.Nodes.{Branch, Node, all, node_of, trie_of}
 use Rattle.filter_model.specs.Trie.{END, height, nodes, nodes_to, path}
 use Rattle.byte_fields.specs.Spelling.{IsBytes}
-use Rattle.filter_image_model.specs.Header.{Bytes, hash_bits_in, cutoff_in, height_in, leaf_count_in, dense_count_in, section_bits, section_bytes, section}
+use Rattle.filter_image_model.specs.Header.{Bytes, hash_bits_in, cutoff_in, height_in, leaf_count_in, dense_count_in, section_bits, section_bytes, section, section_place}
+use Rattle.filter_image_model.specs.Kinds.{IsKind, Kind, leaves_beside, leaves_under}
 use Rattle.filter_image_model.specs.Levels.{are_levels, levels_from, leaf_count_of, nodes_above, leaves_behind, root_leaves}
 use Rattle.filter_image_model.proofs.RisingBytes.{RisingBytes, rising_bytes}
 use Rattle.filter_image_model.specs.Nodes.{IsDense, cut_nodes, named, dense_in, sparse_in}
 use Rattle.filter_image_model.proofs.Lists.{all_append, length-map}
 use Rattle.filter_image_model.proofs.SparseNodes.{AreBytes}
-use Rattle.filter_image_model.specs.Reading.{rises, is_no_node, is_no_root, is_lone_end, is_lone_leaf, nodes_fault, image_head_fault, length_fault, padding_fault, stray_fault, louds_fault, counts_fault, shape_fault, ends_fault, nodes_rules, image_fault, slot_suffix, leaves_in, slot_letters}
+use Rattle.filter_image_model.specs.Reading.{rises, is_no_node, is_no_root, is_lone_end, is_lone_leaf, nodes_fault, image_head_fault, length_fault, padding_fault, stray_fault, louds_fault, counts_fault, shape_fault, ends_fault, nodes_rules, fault_by, slot_suffix, leaves_in, slot_letters}
 use Rattle.filter_image_model.specs.Sections.{KeepsBytes}
 use Rattle.filter_image_model.specs.Laws.{IsReadTrie, TrieIsRead}
 use Rattle.byte_fields.proofs.FaultLemmas.{kept, neither, not_false}
-use Rattle.filter_image_model.proofs.Headers.{header_kept}
+use Rattle.filter_image_model.proofs.Headers.{header_again, header_kept, widths_kept}
 use Rattle.filter_image_model.proofs.GroupWords.{Group, gather, IsGoodNode}
 use Rattle.filter_image_model.proofs.DenseNodes.{dense_are}
 use Rattle.filter_image_model.proofs.SparseNodes.{bytes_each, zip_bytes, cut_joins, cut_none, length-zip}
@@ -100,24 +101,32 @@ all_sound leaves (n ∷ ns) v w = (sound leaves n v.0 w.0, all_sound leaves ns v
 
 -- ---- all rules
 
-pub record KeepsRules (bytes : Bytes) : Type 0 where
+-- where a leaf may be alone in its node, or may not
+pub record KeepsRules (alone : Bool) (bytes : Bytes) : Type 0 where
   pub bytes_rules : KeepsBytes bytes
   pub counts : counts_fault bytes (dense_in bytes ++ sparse_in bytes) ≡ None
-  pub shape : shape_fault bytes (dense_in bytes) (sparse_in bytes) ≡ None
+  pub shape : shape_fault alone bytes (dense_in bytes) (sparse_in bytes) ≡ None
   pub ends : ends_fault bytes 0 (slot_letters (dense_in bytes ++ sparse_in bytes)) ≡ None
 
-pub rules_kept : (bytes : Bytes) → IsBytes bytes → image_fault bytes ≡ None → KeepsRules bytes
-unfolding image_fault nodes_rules
-rules_kept bytes h e =
-    let r1 = neither (image_head_fault bytes) _ e in
+pub head_kept : (k : Kind) (bytes : Bytes) → fault_by k bytes ≡ None → image_head_fault k.hash_bits k.real_bits bytes ≡ None
+unfolding fault_by
+head_kept k bytes e = (neither (image_head_fault k.hash_bits k.real_bits bytes) _ e).0
+
+-- bytes that break no rule of a kind keep each one
+pub rules_kept : (k : Kind) (bytes : Bytes) → IsKind k → IsBytes bytes → fault_by k bytes ≡ None → KeepsRules k.alone bytes
+unfolding fault_by nodes_rules
+rules_kept k bytes kind h e =
+    let r1 = neither (image_head_fault k.hash_bits k.real_bits bytes) _ e in
     let r2 = neither (length_fault bytes) _ r1.1 in
     let r3 = neither (padding_fault 40 (section_bits bytes) bytes) _ r2.1 in
     let r4 = neither (stray_fault bytes) _ r3.1 in
     let r5 = neither (louds_fault bytes) _ r4.1 in
     let r6 = neither (counts_fault bytes (dense_in bytes ++ sparse_in bytes)) _ r5.1 in
-    let r7 = neither (shape_fault bytes (dense_in bytes) (sparse_in bytes)) _ r6.1 in
+    let r7 = neither (shape_fault k.alone bytes (dense_in bytes) (sparse_in bytes)) _ r6.1 in
+    let widths = widths_kept k.hash_bits k.real_bits bytes r1.0 in
+    let head = header_again k.hash_bits k.real_bits 32 32 bytes r1.0 (omega (arith, widths.0, kind.hash_width)) (omega (arith, widths.1, kind.real_width)) in
     record {
-      bytes_rules = record { bytes_are = h; header = r1.0; lengths = r2.0; padding = r3.0; strays = r4.0; louds = r5.0 };
+      bytes_rules = record { bytes_are = h; header = head; lengths = r2.0; padding = r3.0; strays = r4.0; louds = r5.0 };
       counts = r6.0;
       shape = r7.0;
       ends = r7.1;
@@ -136,14 +145,15 @@ counts_kept bytes e =
     let s = or_parts (not (are_levels (height_in bytes) 1 ns)) (not (nodes_above (cutoff_in bytes) 1 ns == dense_count_in bytes)) r.0 in
     record { levels = not_false _ s.0; dense = eqb-true _ _ (not_false _ s.1); leaves = eqb-true _ _ (not_false _ r.1) }
 
-pub good_nodes : (bytes : Bytes) → KeepsRules bytes → AllByRecursion IsGoodNode (dense_in bytes ++ sparse_in bytes)
+pub good_nodes : {alone : Bool} (bytes : Bytes) → KeepsRules alone bytes → AllByRecursion IsGoodNode (dense_in bytes ++ sparse_in bytes)
 unfolding shape_fault
-good_nodes bytes k =
-    let s = kept (is_no_root (height_in bytes) (leaf_count_in bytes) (dense_in bytes ++ sparse_in bytes)) _ _ _ k.shape in
-    let t = neither (nodes_fault (λ n. 32) (leaf_count_in bytes) 40 (dense_in bytes)) _ s.1 in
+good_nodes {alone} bytes k =
+    let L = leaves_beside alone (leaf_count_in bytes) in
+    let s = kept (is_no_root (height_in bytes) (leaves_under alone (leaf_count_in bytes)) (dense_in bytes ++ sparse_in bytes)) _ _ _ k.shape in
+    let t = neither (nodes_fault (λ n. 32) L 40 (dense_in bytes)) _ s.1 in
     all_append IsGoodNode (dense_in bytes) (sparse_in bytes)
-    (all_sound (leaf_count_in bytes) (dense_in bytes) (nodes_kept _ _ _ (dense_in bytes) t.0) (dense_in_letters bytes))
-    (all_sound (leaf_count_in bytes) (sparse_in bytes) (nodes_kept _ _ _ (sparse_in bytes) t.1) (sparse_letters bytes k.bytes_rules))
+    (all_sound L (dense_in bytes) (nodes_kept (λ n. 32) L 40 (dense_in bytes) t.0) (dense_in_letters bytes))
+    (all_sound L (sparse_in bytes) (nodes_kept length L (section_place 3 bytes) (sparse_in bytes) t.1) (sparse_letters bytes k.bytes_rules))
 
 -- ---- the leaves
 
@@ -157,7 +167,7 @@ one_group [] gs e l = absurd (omega (arith, l, ap length e))
 one_group (ls ∷ []) gs e l = sym e
 one_group (ls ∷ more ∷ lss) gs e l = absurd (omega (arith, l, ap length e))
 
-pub read_trie : (bytes : Bytes) → KeepsRules bytes → IsReadTrie bytes
+pub read_trie : {alone : Bool} (bytes : Bytes) → KeepsRules alone bytes → IsReadTrie bytes
 unfolding leaves_in trie_of nodes
 read_trie bytes k =
     let ns = dense_in bytes ++ sparse_in bytes in
@@ -181,4 +191,4 @@ read_trie bytes k =
     }
 
 pub trie_read : TrieIsRead
-trie_read bytes h e = read_trie bytes (rules_kept bytes h e)
+trie_read k bytes kind h e = read_trie bytes (rules_kept k bytes kind h e)

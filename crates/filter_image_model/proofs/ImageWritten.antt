@@ -84,7 +84,7 @@ section_bits_are bytes =
     zero_times : (w : ℕ) → 0 * w ≡ 0
     zero_times w = omega arith
 
-numbers_are : (bytes : Bytes) → KeepsRules bytes → flat_map (λ (q : List ℕ). picks q (entries (hash_bits_in bytes) (leaves_in bytes))) (slots (leaves_in bytes))
+numbers_are : {alone : Bool} (bytes : Bytes) → KeepsRules alone bytes → flat_map (λ (q : List ℕ). picks q (entries (hash_bits_in bytes) (leaves_in bytes))) (slots (leaves_in bytes))
     ≡ map (slot_suffix bytes) (range_with_len 0 (leaf_count_in bytes))
 unfolding leaves_in
 numbers_are bytes k =
@@ -99,7 +99,7 @@ numbers_are bytes k =
     all_numbers (hash_bits_in bytes) (leaves_in bytes) levels ss l.levels (one_group lss (gather levels) paths_are l.first) (one_root lss (gather levels) paths_are l.first) (omega (arith, exact))
     ((read_trie bytes k).height_is ∙ sym (length-levels (height_in bytes) 1 ns)) exact
 
-pub suffixes_are : (bytes : Bytes) → KeepsRules bytes → suffixes (hash_bits_in bytes) (real_bits_in bytes) (leaves_in bytes) ≡ section 6 bytes
+pub suffixes_are : {alone : Bool} (bytes : Bytes) → KeepsRules alone bytes → suffixes (hash_bits_in bytes) (real_bits_in bytes) (leaves_in bytes) ≡ section 6 bytes
 suffixes_are bytes k =
     suffixes_by_number (hash_bits_in bytes) (real_bits_in bytes) (leaves_in bytes)
     ∙ ap (flat_map (bits_of (suffix_bits_in bytes))) (numbers_are bytes k) ∙ section_bits_are bytes
@@ -110,7 +110,7 @@ pub same_image : (h r c : ℕ) (ls : List Leaf) → image h r c ls ≡ nodes_ima
 unfolding image
 same_image h r c ls = refl
 
-pub image_is : (bytes : Bytes) → KeepsRules bytes → bytes ≡ image (hash_bits_in bytes) (real_bits_in bytes) (cutoff_in bytes) (leaves_in bytes)
+pub image_is : {alone : Bool} (bytes : Bytes) → KeepsRules alone bytes → bytes ≡ image (hash_bits_in bytes) (real_bits_in bytes) (cutoff_in bytes) (leaves_in bytes)
 image_is bytes k =
     let t = read_trie bytes k in
     let ls = leaves_in bytes in
@@ -122,4 +122,4 @@ image_is bytes k =
     ∙ sym (same_image (hash_bits_in bytes) (real_bits_in bytes) (cutoff_in bytes) ls)
 
 pub image_written : BytesAreTheImage
-image_written bytes h e = image_is bytes (rules_kept bytes h e)
+image_written k bytes kind h e = image_is bytes (rules_kept k bytes kind h e)

@@ -1,15 +1,16 @@
--- The image of a valid list is read as its nodes and suffixes, and no other list has it.
+-- The image of a leaf list is read as its nodes and suffixes, and no other list has it.
 use Rattle.std.proofs.Common.{◌≡◌, ℕ, zero, suc, ◌*◌, ◌^◌, ◌<◌, ◌≤◌, List, [], ◌∷◌, ◌++◌, length, take, drop, map, sym, ap, ◌∙◌, arith, subst}
 use Rattle.std.specs.List.{AllByRecursion}
 use Rattle.std.proofs.Math.Nat.{mul-le-mul}
 use Rattle.std.proofs.lemmas.List.{length-append, take-append-drop}
 use Rattle.std.proofs.lemmas.List.Concat.{flat_map-append}
-use Rattle.filter_api.specs.Spellings.{IsSpelling, MayStand, SpellsOne}
+use Rattle.filter_api.specs.Spellings.{AreAlike, MayBeTrie, MayStand, SpellsOne}
 use Rattle.filter_model.specs.Image.{image, suffixes}
 use Rattle.filter_model.specs.Leaves.{Leaf}
 use Rattle.filter_model.specs.Nodes.{Node, all, trie_of}
 use Rattle.filter_model.specs.Trie.{height, nodes_to, path}
-use Rattle.filter_model.specs.Valid.{IsValid}
+use Rattle.filter_model.specs.Valid.{IsLeafList}
+use Rattle.filter_model.proofs.Validity.{valid_lists_are_leaf_lists}
 use Rattle.trie_laws.specs.Louds.{IsNode}
 use Rattle.filter_image_model.specs.Header.{Bytes}
 use Rattle.filter_image_model.specs.Nodes.{IsDense}
@@ -38,7 +39,7 @@ sparse_forms count zero (n ∷ ns) w = (w.0.sparse, sparse_forms count zero ns w
 sparse_forms count (suc k) [] w = tt
 sparse_forms count (suc k) (n ∷ ns) w = sparse_forms count k ns w.1
 
-pub room : (h r c : ℕ) (ls : List Leaf) → MayStand h r c ls → HasRoom h r c (height ls) (length ls) (dense_of c ls) (sparse_of c ls) (suffixes h r ls)
+pub room : (h r c : ℕ) (ls : List Leaf) → MayBeTrie h r c ls → HasRoom h r c (height ls) (length ls) (dense_of c ls) (sparse_of c ls) (suffixes h r ls)
 room h r c ls m =
     let v = m.valid in
     let n = height ls in
@@ -67,29 +68,38 @@ room h r c ls m =
       few_dense = omega (arith, nodes, most, parts, both);
       few_sparse = omega (arith, nodes, most, parts, both);
       few_labels = omega (arith, letters, most, letters_parts, letters_both);
-      dense_nodes = dense_forms t (length (nodes_to ls c)) (trie_of ls) forms;
-      sparse_nodes = sparse_forms t (length (nodes_to ls c)) (trie_of ls) forms;
+      dense_nodes = dense_forms 1 (length (nodes_to ls c)) (trie_of ls) forms;
+      sparse_nodes = sparse_forms 1 (length (nodes_to ls c)) (trie_of ls) forms;
       suffix_bits = suffixes_counted h r ls v;
     }
   where
     small_le : (a : ℕ) → a < 2 ^ 32 → a ≤ 2 ^ 32
     small_le a lt = omega (arith, lt)
 
-pub read_as : (h r c : ℕ) (ls : List Leaf) (bytes : Bytes) → IsSpelling image h r c ls bytes
+-- what a filter may stand for may be a trie
+pub may_be_trie : (h r c : ℕ) (ls : List Leaf) → MayStand h r c ls → MayBeTrie h r c ls
+may_be_trie h r c ls m = record { hash_width = m.hash_width; real_width = m.real_width; cutoff_in = m.cutoff_in; valid = valid_lists_are_leaf_lists h r ls m.valid }
+
+pub read_as : (h r c : ℕ) (ls : List Leaf) (bytes : Bytes) → MayBeTrie h r c ls → bytes ≡ image h r c ls
     → KeepsBytes bytes × AreReadAgain h r c (height ls) (length ls) (dense_of c ls) (sparse_of c ls) (suffixes h r ls) bytes
-read_as h r c ls bytes s = sections_again h r c (height ls) (length ls) (dense_of c ls) (sparse_of c ls) (suffixes h r ls) bytes (room h r c ls s.may_stand) (s.bytes_are ∙ same_image h r c ls)
+read_as h r c ls bytes m e = sections_again h r c (height ls) (length ls) (dense_of c ls) (sparse_of c ls) (suffixes h r ls) bytes (room h r c ls m) (e ∙ same_image h r c ls)
 
 -- **an image has one list**
-pub spells_one : SpellsOne image
-spells_one h r c g q d ls os bytes s t =
-    let a = (read_as h r c ls bytes s).1 in
-    let b = (read_as g q d os bytes t).1 in
+pub one_list_an_image : (h r c g q d : ℕ) (ls os : List Leaf) (bytes : Bytes) → MayBeTrie h r c ls → bytes ≡ image h r c ls → MayBeTrie g q d os → bytes ≡ image g q d os
+    → AreAlike h r ls g q os
+one_list_an_image h r c g q d ls os bytes m e n f =
+    let a = (read_as h r c ls bytes m e).1 in
+    let b = (read_as g q d os bytes n f).1 in
     let hash : h ≡ g = sym a.hash_is ∙ b.hash_is in
     let real : r ≡ q = sym a.real_is ∙ b.real_is in
     let trie : trie_of ls ≡ trie_of os =
     sym (take-append-drop (length (nodes_to ls c)) (trie_of ls))
     ∙ (λ j. (sym a.dense_are ∙ b.dense_are) j ++ (sym a.sparse_are ∙ b.sparse_are) j)
     ∙ take-append-drop (length (nodes_to os d)) (trie_of os) in
-    let valid : IsValid h r os = subst (λ n. IsValid n r os) (sym hash) (subst (λ n. IsValid g n os) (sym real) t.may_stand.valid) in
+    let valid : IsLeafList h r os = subst (λ k. IsLeafList k r os) (sym hash) (subst (λ k. IsLeafList g k os) (sym real) n.valid) in
     let bits : suffixes h r ls ≡ suffixes h r os = sym a.suffixes_are ∙ b.suffixes_are ∙ (λ j. suffixes (sym hash j) (sym real j) os) in
-    record { hash_width = hash; real_width = real; leaves_are = one_list h r ls os s.may_stand.valid valid trie bits }
+    record { hash_width = hash; real_width = real; leaves_are = one_list h r ls os m.valid valid trie bits }
+
+pub spells_one : SpellsOne image
+spells_one h r c g q d ls os bytes s t =
+    one_list_an_image h r c g q d ls os bytes (may_be_trie h r c ls s.may_stand) s.bytes_are (may_be_trie g q d os t.may_stand) t.bytes_are

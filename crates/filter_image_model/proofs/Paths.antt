@@ -12,7 +12,7 @@ use Rattle.filter_model.specs.Leaves.{Leaf}
 use Rattle.filter_model.specs.Nodes.{Node, node_of, trie_of}
 use Rattle.filter_model.specs.Strings.{extends, is_before}
 use Rattle.filter_model.specs.Trie.{END, height, letters, level, nodes, nodes_to, path}
-use Rattle.filter_model.specs.Valid.{EndsRightly, IsLeaf, IsValid}
+use Rattle.filter_model.specs.Valid.{EndsRightly, IsLeaf, IsLeafList}
 use Rattle.filter_image_model.specs.Levels.{levels_from as cut_levels}
 use Rattle.filter_image_model.specs.Levels.{children_of as children_count}
 use Rattle.trie_model.specs.Letters.{comes_before as before, order_of}
@@ -348,7 +348,7 @@ unfolding path
 goes h r [] s w = absurd (omega (arith, s))
 goes h r (l ∷ ls) s w = filled l.stub l.ends (map path ls) (w 0 l (omega arith)).stub.filled
 
-pub fine_paths : (h r : ℕ) (ls : List Leaf) → IsValid h r ls → (n : ℕ) → height ls ≤ n → IsFine n (map path ls)
+pub fine_paths : (h r : ℕ) (ls : List Leaf) → IsLeafList h r ls → (n : ℕ) → height ls ≤ n → IsFine n (map path ls)
 fine_paths h r ls v n le = record {
   sorted = sorted_paths ls (stub_bytes h r ls v.leaves) v.rising (ends_right ls v.ends);
   small = small_paths ls (stub_bytes h r ls v.leaves);

@@ -203,7 +203,7 @@ module _ (h r c ht lv : ℕ) (dense sparse : List Node) (suffixes : List Bool) (
   unfolding sparse_in
   sparse_nodes_are = (λ j. sparse_nodes (section_3 j) (section_4 j) (section_5 j)) ∙ sparse_again sparse room.sparse_nodes
 
-  no_header_fault : image_head_fault bytes ≡ None
+  no_header_fault : image_head_fault 32 32 bytes ≡ None
   unfolding image_head_fault
   no_header_fault =
       passed (nat_lt (length bytes) 40) _ _ _ (le-ltb (length bytes) 40 long)

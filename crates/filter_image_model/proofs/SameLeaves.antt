@@ -17,7 +17,7 @@ use Rattle.filter_model.specs.Leaves.{Leaf}
 use Rattle.filter_model.specs.Nodes.{trie_of}
 use Rattle.filter_model.specs.Strings.{bytes_eq}
 use Rattle.filter_model.specs.Trie.{branches, height, is_node, level, nodes, nodes_to, path, places, slots}
-use Rattle.filter_model.specs.Valid.{IsLeaf, IsValid}
+use Rattle.filter_model.specs.Valid.{IsLeaf, IsLeafList}
 use Rattle.trie_model.specs.Rests.{rests}
 use Rattle.trie_laws.proofs.Slots.{leaves_have_slots}
 use Rattle.trie_levels.proofs.Totals.{valid_lists_have_tries}
@@ -200,13 +200,13 @@ entries_fit h r (l ∷ ls) v = (
 pub firsts_are : (h : ℕ) (ls : List Leaf) → firsts (entries h ls) ≡ map path ls
 firsts_are h ls = map-map (λ (x : Entry). x.0) (entry h) ls
 
-each_slot : (h r : ℕ) (ls : List Leaf) → IsValid h r ls → (q : List ℕ) → Contains (map path ls) q → Contains (slots ls) q
+each_slot : (h r : ℕ) (ls : List Leaf) → IsLeafList h r ls → (q : List ℕ) → Contains (map path ls) q → Contains (slots ls) q
 each_slot h r ls v q c =
     let m = Contains-map_back path ls q c in
     subst (Contains (slots ls)) m.2 (All-contains (λ l. Contains (slots ls) (path l)) ls m.0 (leaves_have_slots ls (valid_lists_have_tries h r ls v)).slot_of_leaf m.1)
 
 -- **two valid lists with one trie and the same suffixes are one**
-pub one_list : (h r : ℕ) (ls os : List Leaf) → IsValid h r ls → IsValid h r os → trie_of ls ≡ trie_of os → suffixes h r ls ≡ suffixes h r os → ls ≡ os
+pub one_list : (h r : ℕ) (ls os : List Leaf) → IsLeafList h r ls → IsLeafList h r os → trie_of ls ≡ trie_of os → suffixes h r ls ≡ suffixes h r os → ls ≡ os
 one_list h r ls os v w t s =
     let e : map path ls ≡ map path os = same_paths ls os (fine_paths h r ls v) (fine_paths h r os w) t in
     let E = entries h ls in

@@ -13,7 +13,7 @@ use Rattle.filter_model.specs.Leaves.{Leaf}
 use Rattle.filter_model.specs.Nodes.{Branch, Node, all, last_letter, trie_of}
 use Rattle.filter_model.specs.Strings.{extends}
 use Rattle.filter_model.specs.Trie.{END, height, path}
-use Rattle.filter_model.specs.Valid.{EndsRightly, IsLeaf, IsValid}
+use Rattle.filter_model.specs.Valid.{EndsRightly, IsLeaf, IsLeafList}
 use Rattle.trie_laws.specs.Louds.{IsNode}
 use Rattle.filter_image_model.specs.Levels.{leaf_count_of}
 use Rattle.filter_image_model.specs.Nodes.{IsDense}
@@ -136,17 +136,17 @@ length-bits w [] = sym (nothing w)
     nothing w = omega arith
 length-bits w (n ∷ ns) = length-append (bits_of w n) (flat_map (bits_of w) ns) ∙ omega (arith, length-bits w ns, length-bits_of w n, suc_times (length ns) w)
 
-in_slots_counted : (h r : ℕ) (ls : List Leaf) → IsValid h r ls → length (in_slots ls) ≡ length ls
+in_slots_counted : (h r : ℕ) (ls : List Leaf) → IsLeafList h r ls → length (in_slots ls) ≡ length ls
 in_slots_counted h r ls v =
     let s = leaves_have_slots ls (valid_lists_have_tries h r ls v) in
     sym (length-map path (in_slots ls)) ∙ ap length s.leaf_of_slot ∙ s.as_many
 
 -- as many leaves as branches that are leaves
-pub leaves_counted : (h r : ℕ) (ls : List Leaf) → IsValid h r ls → leaf_count_of (trie_of ls) ≡ length ls
+pub leaves_counted : (h r : ℕ) (ls : List Leaf) → IsLeafList h r ls → leaf_count_of (trie_of ls) ≡ length ls
 leaves_counted h r ls v =
     sym (length-own (all (trie_of ls))) ∙ ap length (slot_letters_are h r ls v) ∙ length-map (λ l. last_letter (path l)) (in_slots ls) ∙ in_slots_counted h r ls v
 
-pub suffixes_counted : (h r : ℕ) (ls : List Leaf) → IsValid h r ls → length (suffixes h r ls) ≡ length ls * (h + r)
+pub suffixes_counted : (h r : ℕ) (ls : List Leaf) → IsLeafList h r ls → length (suffixes h r ls) ≡ length ls * (h + r)
 suffixes_counted h r ls v =
     ap length (suffixes_by_slots h r ls) ∙ length-bits (h + r) (map (number h) (in_slots ls))
     ∙ ap (λ k. k * (h + r)) (length-map (number h) (in_slots ls) ∙ in_slots_counted h r ls v)
@@ -178,7 +178,7 @@ short_stubs : (h r : ℕ) (ls : List Leaf) → All (IsLeaf h r) ls → AllByRecu
 short_stubs h r [] v = tt
 short_stubs h r (l ∷ ls) v = ((v 0 l (omega arith)).stub.short, short_stubs h r ls (λ k d lt. v (suc k) d (omega (arith, lt))))
 
-pub low_height : (h r : ℕ) (ls : List Leaf) → IsValid h r ls → height ls ≤ 1024
+pub low_height : (h r : ℕ) (ls : List Leaf) → IsLeafList h r ls → height ls ≤ 1024
 low_height h r ls v = let s = short_stubs h r ls v.leaves in low_part 1024 ls ls s s v.ends
 
 path_long : (l : Leaf) → 0 < length l.stub → 0 < length (path l)
@@ -190,7 +190,7 @@ unfolding height
 high_one h r [] lt w = absurd (omega (arith, lt))
 high_one h r (l ∷ ls) lt w = omega (arith, path_long l (w 0 l (omega arith)).stub.filled)
 
-pub some_height : (h r : ℕ) (ls : List Leaf) → IsValid h r ls → 0 < height ls
+pub some_height : (h r : ℕ) (ls : List Leaf) → IsLeafList h r ls → 0 < height ls
 some_height h r ls v = high_one h r ls v.some v.leaves
 
 pub total_of : (ls : List Leaf) → total (map path ls ∷ []) ≤ length ls

@@ -12,7 +12,7 @@ use Rattle.filter_model.specs.Leaves.{Leaf}
 use Rattle.filter_model.specs.Nodes.{Branch, Node, last_letter, trie_of}
 use Rattle.filter_model.specs.Strings.{bytes_eq}
 use Rattle.filter_model.specs.Trie.{END, is_node, path, places, slots}
-use Rattle.filter_model.specs.Valid.{IsLeaf, IsValid}
+use Rattle.filter_model.specs.Valid.{IsLeaf, IsLeafList}
 use Rattle.filter_model.specs.Image.{in_slots, suffixes}
 use Rattle.filter_model.specs.Suffixes.{Suffix, leaf_suffix, packed_suffixes, suffix_number}
 use Rattle.trie_laws.proofs.Places.{all-trie_of}
@@ -49,13 +49,13 @@ leaf_numbers h r (l ∷ ls) v = (leaf_number h r l (v 0 l (omega arith)), leaf_n
 
 -- ---- all leaves, by their slots
 
-pub slots_own : (h r : ℕ) (ls : List Leaf) → IsValid h r ls → AllByRecursion (HasNumber h (h + r)) (in_slots ls)
+pub slots_own : (h r : ℕ) (ls : List Leaf) → IsLeafList h r ls → AllByRecursion (HasNumber h (h + r)) (in_slots ls)
 unfolding in_slots
 slots_own h r ls v =
     let w = leaf_numbers h r ls v.leaves in
     all_flat (HasNumber h (h + r)) (λ (q : List ℕ). filter (λ l. bytes_eq (path l) q) ls) (slots ls) (λ q. all_filter (HasNumber h (h + r)) (λ l. bytes_eq (path l) q) ls w)
 
-pub slot_letters_are : (h r : ℕ) (ls : List Leaf) → IsValid h r ls → slot_letters (trie_of ls) ≡ map (λ l. last_letter (path l)) (in_slots ls)
+pub slot_letters_are : (h r : ℕ) (ls : List Leaf) → IsLeafList h r ls → slot_letters (trie_of ls) ≡ map (λ l. last_letter (path l)) (in_slots ls)
 unfolding slots
 slot_letters_are h r ls v =
     let as_branch : List ℕ → Branch = λ q. (last_letter q, is_node ls q) in

@@ -1,7 +1,7 @@
--- What is read of bytes that break no rule may stand, so they are its image.
+-- What is read of bytes that break no rule of a kind is a list of that kind, so they are its image.
 use Rattle.std.proofs.Common.{◌≡◌, ℕ, zero, suc, ◌+◌, ◌*◌, ◌^◌, ◌<◌, ◌≤◌, Bool, true, false, cond, List, [], ◌∷◌, ◌++◌, length, take, drop, map, refl, sym, ap, ◌∙◌, arith, subst}
-use Rattle.std.specs.Prelude.{not, ◌&&◌, ◌||◌, ◌==◌, nat_lt}
-use Rattle.std.specs.List.{AllByRecursion, list_any, range_with_len}
+use Rattle.std.specs.Prelude.{not, ◌&&◌, ◌||◌, ◌==◌, nat_lt, None}
+use Rattle.std.specs.List.{All, AllByRecursion, list_any, range_with_len}
 use Rattle.std.proofs.lemmas.List.{length-drop, length-take-le}
 use Rattle.std.proofs.lemmas.List.FromFn.{length-map-range_with_len}
 use Rattle.std.proofs.lemmas.Simd.{mask_l-lt}
@@ -9,20 +9,21 @@ use Rattle.std.proofs.lemmas.Bool.{eq-eqb, lt-ltb, ltb-false, or_parts, true≢f
 use Rattle.byte_fields.specs.Spelling.{IsBytes}
 use Rattle.byte_fields.proofs.NumberLemmas.{IsBytes-drop, number_below}
 use Rattle.filter_api.specs.Spellings.{MayStand}
-use Rattle.filter_model.specs.Image.{has_letter}
-use Rattle.filter_model.specs.Leaves.{Leaf}
+use Rattle.filter_model.specs.Image.{has_letter, image}
+use Rattle.filter_model.specs.Leaves.{Filter, Leaf}
 use Rattle.filter_model.specs.Nodes.{Branch, Node}
-use Rattle.filter_model.specs.Trie.{END, path}
-use Rattle.filter_model.specs.Valid.{EndsRightly, IsCrowded, IsLeaf}
-use Rattle.filter_image_model.specs.Header.{Bytes, hash_bits_in, real_bits_in, cutoff_in, height_in, leaf_count_in, suffix_bits_in, section}
-use Rattle.filter_image_model.specs.Laws.{ImageWasWrittenSo}
+use Rattle.filter_model.specs.Trie.{END, height, path}
+use Rattle.filter_model.specs.Valid.{EndsRightly, IsCrowded, IsLeaf, IsLeafList}
+use Rattle.filter_image_model.specs.Header.{Bytes, hash_bits_in, real_bits_in, cutoff_in, height_in, leaf_count_in, suffix_bits_in, section, section_place}
+use Rattle.filter_image_model.specs.Kinds.{IsKind, IsOfKind, Kind, leaves_beside, leaves_under, of_stubs, of_whole_keys}
+use Rattle.filter_image_model.specs.Laws.{ImageWasWrittenSo, ImagesWereWrittenSo, IsImageBy, IsWholeImage, WholeImageWasWrittenSo, whole_list}
 use Rattle.filter_image_model.specs.Levels.{under_letter, children_of, leaves_behind, leaf_count_of, levels_from, node_leaves, root_leaves}
 use Rattle.filter_image_model.specs.Nodes.{dense_in, sparse_in}
-use Rattle.filter_image_model.specs.Reading.{image_in, is_lone_end, is_lone_leaf, is_no_node, is_no_root, leaves_in, nodes_fault, rises, shape_fault, slot_letters, slot_suffix}
+use Rattle.filter_image_model.specs.Reading.{image_head_fault, image_in, is_lone_end, is_lone_leaf, is_no_node, is_no_root, leaves_in, nodes_fault, rises, shape_fault, slot_letters, slot_suffix}
 use Rattle.filter_image_model.proofs.Lists.{all_append, all_drop, all_map, all_of, all_take}
 use Rattle.filter_image_model.proofs.GroupWords.{Sorted, gather}
-use Rattle.filter_image_model.proofs.Headers.{header_kept}
-use Rattle.filter_image_model.proofs.ImageTrie.{KeepsRules, counts_kept, dense_in_letters, good_nodes, nodes_kept, one_group, one_root, read_trie, rules_kept, sparse_letters}
+use Rattle.filter_image_model.proofs.Headers.{header_kept, widths_kept}
+use Rattle.filter_image_model.proofs.ImageTrie.{KeepsRules, counts_kept, dense_in_letters, good_nodes, head_kept, nodes_kept, one_group, one_root, read_trie, rules_kept, sparse_letters}
 use Rattle.filter_image_model.proofs.ImageWritten.{image_is, length_6}
 use Rattle.filter_image_model.proofs.LeavesRead.{HasMarks, IsOwn, behind_own, marks}
 use Rattle.filter_image_model.proofs.LevelsRead.{AreLetters, behind_paths, flat, levelled}
@@ -59,20 +60,21 @@ all_sound : (leaves : ℕ) (ns : List Node) → AllByRecursion (λ n. is_no_node
 all_sound leaves [] v w = tt
 all_sound leaves (n ∷ ns) v w = (sound leaves n v.0 w.0, all_sound leaves ns v.1 w.1)
 
-pub record KeepsShape (bytes : Bytes) : Type 0 where
-  pub root : is_no_root (height_in bytes) (leaf_count_in bytes) (dense_in bytes ++ sparse_in bytes) ≡ false
-  pub nodes : AllByRecursion (IsSound (leaf_count_in bytes)) (dense_in bytes ++ sparse_in bytes)
+pub record KeepsShape (alone : Bool) (bytes : Bytes) : Type 0 where
+  pub root : is_no_root (height_in bytes) (leaves_under alone (leaf_count_in bytes)) (dense_in bytes ++ sparse_in bytes) ≡ false
+  pub nodes : AllByRecursion (IsSound (leaves_beside alone (leaf_count_in bytes))) (dense_in bytes ++ sparse_in bytes)
 
-shape_kept : (bytes : Bytes) → KeepsRules bytes → KeepsShape bytes
+shape_kept : (alone : Bool) (bytes : Bytes) → KeepsRules alone bytes → KeepsShape alone bytes
 unfolding shape_fault
-shape_kept bytes k =
-    let s = kept (is_no_root (height_in bytes) (leaf_count_in bytes) (dense_in bytes ++ sparse_in bytes)) _ _ _ k.shape in
-    let t = neither (nodes_fault (λ n. 32) (leaf_count_in bytes) 40 (dense_in bytes)) _ s.1 in
+shape_kept alone bytes k =
+    let L = leaves_beside alone (leaf_count_in bytes) in
+    let s = kept (is_no_root (height_in bytes) (leaves_under alone (leaf_count_in bytes)) (dense_in bytes ++ sparse_in bytes)) _ _ _ k.shape in
+    let t = neither (nodes_fault (λ n. 32) L 40 (dense_in bytes)) _ s.1 in
     record {
       root = s.0;
-      nodes = all_append (IsSound (leaf_count_in bytes)) (dense_in bytes) (sparse_in bytes)
-          (all_sound (leaf_count_in bytes) (dense_in bytes) (nodes_kept _ _ _ (dense_in bytes) t.0) (dense_in_letters bytes))
-          (all_sound (leaf_count_in bytes) (sparse_in bytes) (nodes_kept _ _ _ (sparse_in bytes) t.1) (sparse_letters bytes k.bytes_rules));
+      nodes = all_append (IsSound L) (dense_in bytes) (sparse_in bytes)
+          (all_sound L (dense_in bytes) (nodes_kept (λ n. 32) L 40 (dense_in bytes) t.0) (dense_in_letters bytes))
+          (all_sound L (sparse_in bytes) (nodes_kept length L (section_place 3 bytes) (sparse_in bytes) t.1) (sparse_letters bytes k.bytes_rules));
     }
 
 -- ---- level by level
@@ -173,17 +175,25 @@ unfolding HasStub
 are_single h r most [] le o s = tt
 are_single h r most (l ∷ ls) le o s = (omega (arith, o.0.short, le, s.0), are_single h r most ls le o.1 s.1)
 
-pub stands : (bytes : Bytes) → KeepsRules bytes → MayStand (hash_bits_in bytes) (real_bits_in bytes) (cutoff_in bytes) (leaves_in bytes)
+-- of bytes that keep the rules: the leaves that are read, and where none may be alone, that none is
+pub record AreRead (alone : Bool) (bytes : Bytes) : Type 0 where
+  pub cutoff_in : cutoff_in bytes ≤ height (leaves_in bytes)
+  pub listed : IsLeafList (hash_bits_in bytes) (real_bits_in bytes) (leaves_in bytes)
+  pub single : alone ≡ false → length (leaves_in bytes) ≡ 1 → All (λ (l : Leaf). length l.stub ≡ 1) (leaves_in bytes)
+  pub crowded : alone ≡ false → 1 < length (leaves_in bytes) → All (IsCrowded (leaves_in bytes)) (leaves_in bytes)
+
+pub are_read : (alone : Bool) (bytes : Bytes) → KeepsRules alone bytes → AreRead alone bytes
 unfolding leaves_in
-stands bytes k =
+are_read alone bytes k =
     let ns = dense_in bytes ++ sparse_in bytes in
     let h = hash_bits_in bytes in
     let r = real_bits_in bytes in
     let count = leaf_count_in bytes in
-    let M = 1 < count in
+    let L = leaves_beside alone count in
+    let M = 1 < L in
     let head = header_kept bytes k.bytes_rules.header in
     let c = counts_kept bytes k.counts in
-    let shape = shape_kept bytes k in
+    let shape = shape_kept alone bytes k in
     let t = read_trie bytes k in
     let l = levelled (height_in bytes) 1 ns c.levels (good_nodes bytes k) in
     let levels = levels_from (height_in bytes) 1 ns in
@@ -194,34 +204,91 @@ stands bytes k =
     let paths_are = behind_paths h levels ss enough in
     let root : lss ≡ ls ∷ [] = one_root lss (gather levels) paths_are l.first in
     let gathered : gather levels ≡ map path ls ∷ [] = one_group lss (gather levels) paths_are l.first in
-    let each_level = by_levels (IsSound count) (height_in bytes) 1 ns shape.nodes in
-    let tree : IsTree M ls = (subst (AllByRecursion (IsTree M)) root (behind_tree M h levels ss l.levels (by_levels (KeepsNode M h) (height_in bytes) 1 ns (all_map (IsSound count) (KeepsNode M h) (λ n s. record { not_end = s.keeps.not_end; not_leaf = s.keeps.not_leaf }) ns shape.nodes)) enough)).0 in
+    let tree : IsTree M ls = (subst (AllByRecursion (IsTree M)) root (behind_tree M h levels ss l.levels (by_levels (KeepsNode M h) (height_in bytes) 1 ns (all_map (IsSound L) (KeepsNode M h) (λ n s. record { not_end = s.keeps.not_end; not_leaf = s.keeps.not_leaf }) ns shape.nodes)) enough)).0 in
     let owns : AllByRecursion (IsOwn h r (length levels)) ls =
-    (subst (AllByRecursion (AllByRecursion (IsOwn h r (length levels)))) root (behind_own h r levels ss (by_levels HasMarks (height_in bytes) 1 ns (all_map (IsSound count) HasMarks (λ n s. s.marked) ns shape.nodes)) (suffixes_fit bytes 0 count (omega arith)))).0 in
+    (subst (AllByRecursion (AllByRecursion (IsOwn h r (length levels)))) root (behind_own h r levels ss (by_levels HasMarks (height_in bytes) 1 ns (all_map (IsSound L) HasMarks (λ n s. s.marked) ns shape.nodes)) (suffixes_fit bytes 0 count (omega arith)))).0 in
     let reals : AllByRecursion HasNone ls =
     (subst (AllByRecursion (AllByRecursion HasNone)) root (behind_real h levels ss (subst (λ (ms : List Node). EndsFit h (slot_letters ms) ss) (sym l.joined) (ends_kept bytes 0 (slot_letters ns) k.ends count)))).0 in
     let sorted : Sorted (map path ls) =
-    (subst (AllByRecursion Sorted) gathered (sorted_gather levels (by_levels (OrderFrom 0) (height_in bytes) 1 ns (all_map (IsSound count) (OrderFrom 0) (λ n s. s.order) ns shape.nodes)))).0 in
-    let stubs : AllByRecursion HasStub ls = root_stubs h levels ss (no_end_first (height_in bytes) count (height_in bytes) ns shape.root) in
+    (subst (AllByRecursion Sorted) gathered (sorted_gather levels (by_levels (OrderFrom 0) (height_in bytes) 1 ns (all_map (IsSound L) (OrderFrom 0) (λ n s. s.order) ns shape.nodes)))).0 in
+    let stubs : AllByRecursion HasStub ls = root_stubs h levels ss (no_end_first (height_in bytes) (leaves_under alone count) (height_in bytes) ns shape.root) in
     let deep : length levels ≡ height_in bytes = length-levels (height_in bytes) 1 ns in
     record {
-      hash_width = head.hash_width;
-      real_width = head.real_width;
       cutoff_in = omega (arith, head.cutoff, t.height_is);
-      valid = record {
+      listed = record {
         some = omega (arith, t.count, head.some_leaves);
         few = omega (arith, t.count, number_below 4 (drop 12 bytes) (IsBytes-drop 12 bytes k.bytes_rules.bytes_are) (omega (arith, length-drop 12 bytes, head.long)));
         leaves = all_of (IsLeaf h r) ls (are_leaves h r (length levels) ls (omega (arith, deep, head.low)) owns stubs reals);
         rising = rising_leaves ls (all_map (IsOwn h r (length levels)) (λ (x : Leaf). AllByRecursion (λ b. b < 256) x.stub) (λ x o. o.bytes) ls owns) sorted;
         ends = all_of (EndsRightly ls) ls (all_map (Stands M ls) (EndsRightly ls) (λ x s. s.ends) ls tree.stands);
-        single = (λ one. all_of (λ (x : Leaf). length x.stub ≡ 1) ls (are_single h r (length levels) ls (omega (arith, deep, one_high (height_in bytes) count ns shape.root (sym t.count ∙ one))) owns stubs));
-        crowded = (λ more. all_of (IsCrowded ls) ls (all_map (Stands M ls) (IsCrowded ls) (λ x s. s.crowded (subst (λ n. 1 < n) t.count more)) ls tree.stands));
       };
+      single = (λ kept one.
+          let under : leaves_under alone count ≡ 1 = ap (λ a. leaves_under a count) kept ∙ sym t.count ∙ one in
+          all_of (λ (x : Leaf). length x.stub ≡ 1) ls (are_single h r (length levels) ls (omega (arith, deep, one_high (height_in bytes) (leaves_under alone count) ns shape.root under)) owns stubs));
+      crowded = (λ kept more.
+          let beside : length ls ≡ L = t.count ∙ sym (ap (λ a. leaves_beside a count) kept) in
+          all_of (IsCrowded ls) ls (all_map (Stands M ls) (IsCrowded ls) (λ x s. s.crowded (subst (λ n. 1 < n) beside more)) ls tree.stands));
     }
 
--- **bytes that break no rule are the image of what is read**
-pub was_written_so : ImageWasWrittenSo
+-- what is read of bytes that break no rule of a kind is a list of that kind
+pub stands_by : (k : Kind) (bytes : Bytes) → image_head_fault k.hash_bits k.real_bits bytes ≡ None → KeepsRules k.alone bytes
+    → IsOfKind k (hash_bits_in bytes) (real_bits_in bytes) (cutoff_in bytes) (leaves_in bytes)
+stands_by k bytes head kept =
+    let a = are_read k.alone bytes kept in
+    let widths = widths_kept k.hash_bits k.real_bits bytes head in
+    record {
+      hash_width = widths.0;
+      real_width = widths.1;
+      cutoff_in = a.cutoff_in;
+      listed = a.listed;
+      company = (λ together. record {
+        some = a.listed.some;
+        few = a.listed.few;
+        leaves = a.listed.leaves;
+        rising = a.listed.rising;
+        ends = a.listed.ends;
+        single = a.single together;
+        crowded = a.crowded together;
+      });
+    }
+
+-- **bytes that break no rule of a kind are the image of what is read**
+pub written_by : ImagesWereWrittenSo
 unfolding image_in
+written_by k bytes kind h e =
+    let kept = rules_kept k bytes kind h e in
+    record { may_stand = stands_by k bytes (head_kept k bytes e) kept; bytes_are = image_is bytes kept }
+
+pub stubs_are_a_kind : IsKind of_stubs
+stubs_are_a_kind = record { hash_width = omega arith; real_width = omega arith }
+
+pub whole_keys_are_a_kind : IsKind of_whole_keys
+whole_keys_are_a_kind = record { hash_width = omega arith; real_width = omega arith }
+
+-- of a filter: what its kind takes may stand
+pub may_stand_by : (h r c : ℕ) (ls : List Leaf) → IsOfKind of_stubs h r c ls → MayStand h r c ls
+may_stand_by h r c ls o = record { hash_width = o.hash_width; real_width = o.real_width; cutoff_in = o.cutoff_in; valid = o.company refl }
+
+pub was_written_so : ImageWasWrittenSo
 was_written_so bytes h e =
-    let k = rules_kept bytes h e in
-    record { may_stand = stands bytes k; bytes_are = image_is bytes k }
+    let i = image_in bytes in
+    let w = written_by of_stubs bytes stubs_are_a_kind h e in
+    record { may_stand = may_stand_by i.hash_bits i.real_bits i.cutoff i.leaves w.may_stand; bytes_are = w.bytes_are }
+
+-- of whole keys: no leaf has bits
+pub whole_of_kind : (i : Filter) (bytes : Bytes) → IsImageBy of_whole_keys i bytes → (i ≡ whole_list i.cutoff i.leaves) × IsWholeImage i.cutoff i.leaves bytes
+whole_of_kind i bytes w =
+    let ls = i.leaves in
+    let hash : i.hash_bits ≡ 0 = omega (arith, w.may_stand.hash_width) in
+    let real : i.real_bits ≡ 0 = omega (arith, w.may_stand.real_width) in
+    let listed : IsLeafList 0 0 ls = subst (λ n. IsLeafList n 0 ls) hash (subst (λ n. IsLeafList i.hash_bits n ls) real w.may_stand.listed) in (
+      (λ j. record { hash_bits = hash j; real_bits = real j; cutoff = i.cutoff; leaves = ls }),
+      record {
+        may_be = record { hash_width = omega arith; real_width = omega arith; cutoff_in = w.may_stand.cutoff_in; valid = listed };
+        bytes_are = w.bytes_are ∙ (λ j. image (hash j) (real j) i.cutoff ls);
+      },
+    )
+
+pub whole_was_written_so : WholeImageWasWrittenSo
+unfolding image_in
+whole_was_written_so bytes h e = whole_of_kind (image_in bytes) bytes (written_by of_whole_keys bytes whole_keys_are_a_kind h e)

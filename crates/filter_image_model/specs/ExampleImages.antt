@@ -39,9 +39,19 @@ mark_leads_on =
     ∷ 5 ∷ 0 ∷ 0 ∷ 0 ∷ 0 ∷ 0 ∷ 0 ∷ 0
     ∷ 0x61 ∷ 0xFF ∷ 0x62 ∷ 0x63 ∷ 0x64 ∷ 3 ∷ 0x0B ∷ []
 
--- no list: ab alone
+-- no filter's list: ab alone
 unfoldable pub ab_alone : Bytes
 ab_alone = take 40 (with_bytes ((12, 1) ∷ (32, 2) ∷ []) a_ab_sparse) ++ 0x61 ∷ 0x62 ∷ 1 ∷ 3 ∷ []
+
+-- no filter's list: zebra alone
+unfoldable pub zebra_alone : Bytes
+zebra_alone =
+    0x53 ∷ 0x55 ∷ 0x52 ∷ 0x46 ∷ 1 ∷ 0 ∷ 0 ∷ 0
+    ∷ 0 ∷ 0 ∷ 5 ∷ 0 ∷ 1 ∷ 0 ∷ 0 ∷ 0
+    ∷ 0 ∷ 0 ∷ 0 ∷ 0 ∷ 0 ∷ 0 ∷ 0 ∷ 0
+    ∷ 5 ∷ 0 ∷ 0 ∷ 0 ∷ 0 ∷ 0 ∷ 0 ∷ 0
+    ∷ 5 ∷ 0 ∷ 0 ∷ 0 ∷ 0 ∷ 0 ∷ 0 ∷ 0
+    ∷ 0x7A ∷ 0x65 ∷ 0x62 ∷ 0x72 ∷ 0x61 ∷ 0x0F ∷ 0x1F ∷ []
 
 -- a leaf without suffix
 abbrev pub plain : List ℕ → Leaf

@@ -3,7 +3,7 @@ use Rattle.std.specs.Prelude.{ℕ, suc, ◌+◌, ◌*◌, ◌/◌, ◌%◌, ◌^
 use Rattle.std.specs.Int.{div_ceil}
 use Rattle.std.specs.List.{list_any, range_with_len}
 use Rattle.std.specs.Option.{option_map, option_or}
-use Rattle.key_base.specs.Limits.{max_hash_bits, max_key_bytes, max_real_bits}
+use Rattle.key_base.specs.Limits.{max_key_bytes}
 use Rattle.bit_model.specs.Numbers.{number_at}
 use Rattle.filter_model.specs.Image.{has_letter}
 use Rattle.filter_model.specs.Leaves.{Filter, Leaf}
@@ -12,6 +12,7 @@ use Rattle.filter_model.specs.Trie.{END}
 use Rattle.trie_model.specs.Letters.{order_of}
 use Rattle.byte_fields.specs.Faults.{Fault, fault, refuse}
 use Rattle.filter_image_model.specs.Header.{Bytes, hash_bits_in, real_bits_in, cutoff_in, height_in, leaf_count_in, dense_count_in, sparse_count_in, suffix_bits_in, section_bits, section_place, end_place, section}
+use Rattle.filter_image_model.specs.Kinds.{Kind, leaves_beside, leaves_under, of_stubs, of_whole_keys}
 use Rattle.filter_image_model.specs.Nodes.{dense_in, sparse_in}
 use Rattle.filter_image_model.specs.Levels.{are_levels, leaves_behind, leaf_count_of, levels_from, nodes_above, root_leaves}
 
@@ -22,13 +23,13 @@ abbrev pub bytes_fault : ℕ → ℕ → List ℕ → Bytes → Option Fault
 bytes_fault rule place [] bytes = None
 bytes_fault rule place (want ∷ more) bytes = refuse (not (slice_index bytes place == want)) place rule (bytes_fault rule (suc place) more bytes)
 
--- 1: fewer than 40 bytes; 2: SURF and version 1; 3: the widths, and a byte that must be 0; 4: height, cutoff, leaves
-unfoldable pub image_head_fault : Bytes → Option Fault
-image_head_fault bytes =
+-- 1: fewer than 40 bytes; 2: SURF and version 1; 3: more bits than these, and a byte that must be 0; 4: height, cutoff, leaves
+unfoldable pub image_head_fault : ℕ → ℕ → Bytes → Option Fault
+image_head_fault hash_most real_most bytes =
     refuse (nat_lt (length bytes) 40) (length bytes) 1
     (option_or (bytes_fault 2 0 (83 ∷ 85 ∷ 82 ∷ 70 ∷ 1 ∷ []) bytes)
-    (refuse (nat_lt max_hash_bits (hash_bits_in bytes)) 5 3
-    (refuse (nat_lt max_real_bits (real_bits_in bytes)) 6 3
+    (refuse (nat_lt hash_most (hash_bits_in bytes)) 5 3
+    (refuse (nat_lt real_most (real_bits_in bytes)) 6 3
     (option_or (bytes_fault 3 7 (0 ∷ []) bytes)
     (refuse ((height_in bytes == 0) || nat_lt max_key_bytes (height_in bytes)) 10 4
     (refuse (nat_lt (height_in bytes) (cutoff_in bytes)) 8 4
@@ -115,11 +116,11 @@ abbrev pub nodes_fault : (Node → ℕ) → ℕ → ℕ → List Node → Option
 nodes_fault width leaves place [] = None
 nodes_fault width leaves place (n ∷ ns) = refuse (is_no_node leaves n) place 9 (nodes_fault width leaves (place + width n) ns)
 
-unfoldable pub shape_fault : Bytes → List Node → List Node → Option Fault
-shape_fault bytes dense sparse =
-    refuse (is_no_root (height_in bytes) (leaf_count_in bytes) (dense ++ sparse)) 40 9
-    (option_or (nodes_fault (λ n. 32) (leaf_count_in bytes) 40 dense)
-    (nodes_fault length (leaf_count_in bytes) (section_place 3 bytes) sparse))
+unfoldable pub shape_fault : Bool → Bytes → List Node → List Node → Option Fault
+shape_fault alone bytes dense sparse =
+    refuse (is_no_root (height_in bytes) (leaves_under alone (leaf_count_in bytes)) (dense ++ sparse)) 40 9
+    (option_or (nodes_fault (λ n. 32) (leaves_beside alone (leaf_count_in bytes)) 40 dense)
+    (nodes_fault length (leaves_beside alone (leaf_count_in bytes)) (section_place 3 bytes) sparse))
 
 -- ---- 10: a leaf that ends and has real bits
 
@@ -139,20 +140,27 @@ ends_fault bytes slot (c ∷ cs) =
 
 -- ---- the rules, in their order
 
-unfoldable pub nodes_rules : Bytes → List Node → List Node → Option Fault
-nodes_rules bytes dense sparse =
+unfoldable pub nodes_rules : Bool → Bytes → List Node → List Node → Option Fault
+nodes_rules alone bytes dense sparse =
     option_or (counts_fault bytes (dense ++ sparse))
-    (option_or (shape_fault bytes dense sparse)
+    (option_or (shape_fault alone bytes dense sparse)
     (ends_fault bytes 0 (slot_letters (dense ++ sparse))))
 
-unfoldable pub image_fault : Bytes → Option Fault
-image_fault bytes =
-    option_or (image_head_fault bytes)
+unfoldable pub fault_by : Kind → Bytes → Option Fault
+fault_by k bytes =
+    option_or (image_head_fault k.hash_bits k.real_bits bytes)
     (option_or (length_fault bytes)
     (option_or (padding_fault 40 (section_bits bytes) bytes)
     (option_or (stray_fault bytes)
     (option_or (louds_fault bytes)
-    (nodes_rules bytes (dense_in bytes) (sparse_in bytes))))))
+    (nodes_rules k.alone bytes (dense_in bytes) (sparse_in bytes))))))
+
+-- those of a filter's image, and those of an image of whole keys
+abbrev pub image_fault : Bytes → Option Fault
+image_fault bytes = fault_by of_stubs bytes
+
+abbrev pub whole_fault : Bytes → Option Fault
+whole_fault bytes = fault_by of_whole_keys bytes
 
 -- ---- what is read
 

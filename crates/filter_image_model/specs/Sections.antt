@@ -14,7 +14,7 @@ use Rattle.filter_image_model.specs.Reading.{image_head_fault, length_fault, pad
 -- no rule on the bytes alone is broken, up to the part of 8 that S-LOUDS keeps
 pub record KeepsBytes (bytes : Bytes) : Type 0 where
   pub bytes_are : IsBytes bytes
-  pub header : image_head_fault bytes ≡ None
+  pub header : image_head_fault max_hash_bits max_real_bits bytes ≡ None
   pub lengths : length_fault bytes ≡ None
   pub padding : padding_fault 40 (section_bits bytes) bytes ≡ None
   pub strays : stray_fault bytes ≡ None

@@ -1,11 +1,11 @@
 //! Images that are read, and images with a byte or two changed: the first rule that they break. Each example computes.
-#![tactic(auto, unfolding(crate::specs::Header::section_bits, crate::specs::Header::section_place, crate::specs::Header::section, crate::specs::Header::section_bytes, crate::specs::Nodes::dense_in, crate::specs::Nodes::sparse_in, crate::specs::Reading::image_head_fault, crate::specs::Reading::length_fault, crate::specs::Reading::stray_fault, crate::specs::Reading::louds_fault, crate::specs::Reading::counts_fault, crate::specs::Reading::shape_fault, crate::specs::Reading::slot_suffix, crate::specs::Reading::ends_fault, crate::specs::Reading::nodes_rules, crate::specs::Reading::image_fault, crate::specs::Reading::leaves_in, crate::specs::Reading::image_in, crate::specs::ExampleImages::a_with_hash, crate::specs::ExampleImages::a_ab_ac_with_real, crate::specs::ExampleImages::mark_leads_on, crate::specs::ExampleImages::ab_alone, filter_model::specs::Examples::a_ab_sparse, filter_model::specs::Examples::a_ab_root_dense, filter_model::specs::Examples::a_ab_dense, filter_model::specs::Examples::far_to_toy_sparse, bit_model::specs::Packed::unpacked))]
+#![tactic(auto, unfolding(crate::specs::Header::section_bits, crate::specs::Header::section_place, crate::specs::Header::section, crate::specs::Header::section_bytes, crate::specs::Nodes::dense_in, crate::specs::Nodes::sparse_in, crate::specs::Reading::image_head_fault, crate::specs::Reading::length_fault, crate::specs::Reading::stray_fault, crate::specs::Reading::louds_fault, crate::specs::Reading::counts_fault, crate::specs::Reading::shape_fault, crate::specs::Reading::slot_suffix, crate::specs::Reading::ends_fault, crate::specs::Reading::nodes_rules, crate::specs::Reading::fault_by, crate::specs::Reading::leaves_in, crate::specs::Reading::image_in, crate::specs::ExampleImages::a_with_hash, crate::specs::ExampleImages::a_ab_ac_with_real, crate::specs::ExampleImages::mark_leads_on, crate::specs::ExampleImages::ab_alone, crate::specs::ExampleImages::zebra_alone, filter_model::specs::Examples::a_ab_sparse, filter_model::specs::Examples::a_ab_root_dense, filter_model::specs::Examples::a_ab_dense, filter_model::specs::Examples::far_to_toy_sparse, bit_model::specs::Packed::unpacked))]
 
 ghost use Rattle.std.specs.Prelude.{◌≡◌, [], ◌∷◌, ◌++◌, false, take, codes, Some, None};
 ghost use Rattle.filter_model.specs.Examples.{a_ab_dense, a_ab_root_dense, a_ab_sparse, far_to_toy, far_to_toy_sparse, real_leaves};
 ghost use Rattle.byte_fields.specs.Faults.{fault};
-ghost use Rattle.filter_image_model.specs.Reading.{image_fault, image_in};
-ghost use Rattle.filter_image_model.specs.ExampleImages.{a_ab_ac_with_real, a_and_ab_leaves, a_leaf, a_with_hash, ab_alone, with_bytes, mark_leads_on, plain};
+ghost use Rattle.filter_image_model.specs.Reading.{image_fault, image_in, whole_fault};
+ghost use Rattle.filter_image_model.specs.ExampleImages.{a_ab_ac_with_real, a_and_ab_leaves, a_leaf, a_with_hash, ab_alone, with_bytes, mark_leads_on, plain, zebra_alone};
 
 /// The images of a and ab with none, one and both levels dense break no rule and are read as the two leaves.
 pub fn images_of_a_and_ab_are_read()
@@ -102,4 +102,27 @@ pub fn node_faults()
     ensures mark_at_a_sparse_root { image_fault (with_bytes ((40, 0xFF) ∷ (41, 0x61) ∷ (42, 0x62) ∷ (44, 2) ∷ (45, 5) ∷ []) a_ab_ac_with_real) ≡ Some (fault 40 9) }
     ensures end_with_real_bits { image_fault (with_bytes ((46, 1) ∷ []) a_ab_ac_with_real) ≡ Some (fault 46 10) }
     ensures suffix_of_slot_2 { image_fault (with_bytes ((5, 8) ∷ (6, 4) ∷ (12, 4) ∷ (32, 5) ∷ (40, 0x30) ∷ (41, 0x31) ∷ (42, 0x61) ∷ (43, 0xFF) ∷ (44, 0x62) ∷ (45, 4) ∷ (46, 9) ∷ (51, 1) ∷ []) (a_ab_ac_with_real ++ 0 ∷ 0 ∷ 0 ∷ 0 ∷ [])) ≡ Some (fault 50 10) }
+{}
+
+/// Images of whole keys, which the rules of a filter's image refuse: one key of several bytes, and a leaf alone in its node.
+pub fn whole_images_are_read()
+    ensures zebra_has_no_fault { whole_fault zebra_alone ≡ None }
+    ensures zebra { image_in zebra_alone ≡ record { hash_bits = 0; real_bits = 0; cutoff = 0; leaves = plain (codes "zebra") ∷ [] } }
+    ensures zebra_is_no_filter { image_fault zebra_alone ≡ Some (fault 40 9) }
+    ensures ab_and_z_have_no_fault { whole_fault (with_bytes ((41, 0x7A) ∷ (44, 5) ∷ []) a_ab_sparse) ≡ None }
+    ensures ab_and_z { image_in (with_bytes ((41, 0x7A) ∷ (44, 5) ∷ []) a_ab_sparse)
+        ≡ record { hash_bits = 0; real_bits = 0; cutoff = 0; leaves = plain (codes "ab") ∷ plain (codes "z") ∷ [] } }
+    ensures ab_and_z_are_no_filter { image_fault (with_bytes ((41, 0x7A) ∷ (44, 5) ∷ []) a_ab_sparse) ≡ Some (fault 42 9) }
+    ensures dense_ab_has_no_fault { whole_fault (with_bytes ((12, 1) ∷ (168, 0) ∷ []) a_ab_dense) ≡ None }
+    ensures dense_ab { image_in (with_bytes ((12, 1) ∷ (168, 0) ∷ []) a_ab_dense)
+        ≡ record { hash_bits = 0; real_bits = 0; cutoff = 2; leaves = plain (codes "ab") ∷ [] } }
+    ensures a_filters_image { whole_fault a_ab_sparse ≡ None }
+{}
+
+/// What the rules of whole keys refuse as those of a filter do, and bits of any width.
+pub fn whole_faults()
+    ensures mark_alone { whole_fault (with_bytes ((52, 6) ∷ (84, 0) ∷ []) a_ab_dense) ≡ Some (fault 72 9) }
+    ensures labels_fall { whole_fault (with_bytes ((41, 0x63) ∷ []) a_ab_sparse) ≡ Some (fault 41 9) }
+    ensures hash_bits { whole_fault a_with_hash ≡ Some (fault 5 3) }
+    ensures real_bits { whole_fault a_ab_ac_with_real ≡ Some (fault 6 3) }
 {}

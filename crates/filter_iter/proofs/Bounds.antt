@@ -17,7 +17,7 @@ use Rattle.filter_iter.specs.declared.parts.Reached.{Reached}
 use Rattle.filter_model.specs.Leaves.{Leaf}
 use Rattle.filter_model.specs.Nodes.{trie_of}
 use Rattle.filter_model.specs.Trie.{END, height, is_node, is_reached, nodes, path}
-use Rattle.filter_model.specs.Valid.{IsValid}
+use Rattle.filter_model.specs.Valid.{IsLeafList}
 use Rattle.filter_trie.proofs.Down.{node_passes, root_first}
 use Rattle.filter_trie.proofs.Finding.{searches_find}
 use Rattle.filter_trie.proofs.Starts.{start-push}
@@ -35,7 +35,7 @@ pub not_so : (b : Bool) → not b ≡ true → b ≡ false
 not_so true e = absurd (false≢true e)
 not_so false e = refl
 
-module _ (hash_bits real_bits : ℕ) (ls : List Leaf) (valid : IsValid hash_bits real_bits ls) where
+module _ (hash_bits real_bits : ℕ) (ls : List Leaf) (valid : IsLeafList hash_bits real_bits ls) where
   has : HasTrie ls
   has = valid_lists_have_tries hash_bits real_bits ls valid
 

@@ -18,7 +18,7 @@ use Rattle.filter_model.specs.Image.{label_of}
 use Rattle.filter_model.specs.Leaves.{Leaf}
 use Rattle.filter_model.specs.Nodes.{Branch as NodeBranch, Node, at, last_letter, trie_of}
 use Rattle.filter_model.specs.Trie.{END, height, is_reached, nodes, path}
-use Rattle.filter_model.specs.Valid.{IsValid}
+use Rattle.filter_model.specs.Valid.{IsLeafList}
 use Rattle.filter_trie.proofs.Down.{node_passes}
 use Rattle.filter_trie.proofs.Finding.{branches_lead, searches_find}
 use Rattle.filter_trie.proofs.Starts.{rests_fine, start-push}
@@ -61,7 +61,7 @@ order_small c l = elim (cases_eq c 256) [
 ahead_few : (c : ℕ) (g : Group) → ahead c g ≤ length g
 ahead_few c g = omega (arith, start_within (c ∷ []) g)
 
-module _ (hash_bits real_bits : ℕ) (ls : List Leaf) (valid : IsValid hash_bits real_bits ls) (v : ℕ) (l : v < length (nodes ls)) where
+module _ (hash_bits real_bits : ℕ) (ls : List Leaf) (valid : IsLeafList hash_bits real_bits ls) (v : ℕ) (l : v < length (nodes ls)) where
   abbrev ns : List Node
   ns = trie_of ls
 

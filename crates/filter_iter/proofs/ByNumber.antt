@@ -9,7 +9,7 @@ use Rattle.filter_iter.specs.Numbers.{IsLeafBelow}
 use Rattle.filter_model.specs.Leaves.{Leaf}
 use Rattle.filter_model.specs.Nodes.{trie_of}
 use Rattle.filter_model.specs.Trie.{END, height, is_reached, nodes, path}
-use Rattle.filter_model.specs.Valid.{IsValid}
+use Rattle.filter_model.specs.Valid.{IsLeafList}
 use Rattle.filter_trie.proofs.Down.{node_passes}
 use Rattle.filter_trie.proofs.Finding.{searches_find}
 use Rattle.filter_trie.proofs.KeyOrder.{slots_are_leaves}
@@ -100,7 +100,7 @@ none_below ls q off = empty (rests q (map path ls)) (sym (reached-rests ls q) �
     empty [] e = refl
     empty (x ∷ g) e = absurd (true≢false e)
 
-module _ (hash_bits real_bits : ℕ) (ls : List Leaf) (valid : IsValid hash_bits real_bits ls) where
+module _ (hash_bits real_bits : ℕ) (ls : List Leaf) (valid : IsLeafList hash_bits real_bits ls) where
   has : HasTrie ls
   has = valid_lists_have_tries hash_bits real_bits ls valid
 
@@ -174,6 +174,6 @@ module _ (hash_bits real_bits : ℕ) (ls : List Leaf) (valid : IsValid hash_bits
     has_branch c b off = omega (arith, b.0, b.1, none_below ls (p ++ c ∷ []) off)
 
 -- the same, as one fact of the byte that was found
-pub by_last : (hash_bits real_bits : ℕ) (ls : List Leaf) (valid : IsValid hash_bits real_bits ls) (v n : ℕ) (l : v < length (nodes ls)) (below : IsLeafBelow ls (get_or (nodes ls) v []) n) (byte : ℕ)
+pub by_last : (hash_bits real_bits : ℕ) (ls : List Leaf) (valid : IsLeafList hash_bits real_bits ls) (v n : ℕ) (l : v < length (nodes ls)) (below : IsLeafBelow ls (get_or (nodes ls) v []) n) (byte : ℕ)
     → (byte < 256) × (first_leaf ls (get_or (nodes ls) v [] ++ byte ∷ []) ≤ n) × (byte < 255 → n < first_leaf ls (get_or (nodes ls) v [] ++ (byte + 1) ∷ [])) → IsLeafBelow ls (get_or (nodes ls) v [] ++ byte ∷ []) n
 by_last hash_bits real_bits ls valid v n l below byte h = by_byte hash_bits real_bits ls valid v n l below byte h.0 h.1 h.2

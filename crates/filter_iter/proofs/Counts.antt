@@ -13,7 +13,7 @@ use Rattle.filter_iter.specs.Counts.{below_first}
 use Rattle.filter_model.specs.Leaves.{Leaf}
 use Rattle.filter_model.specs.Nodes.{Branch, children_before, first_place, leaves_before, trie_of}
 use Rattle.filter_model.specs.Trie.{branches, height, is_node, is_reached, nodes, path, places}
-use Rattle.filter_model.specs.Valid.{IsValid}
+use Rattle.filter_model.specs.Valid.{IsLeafList}
 use Rattle.filter_trie.proofs.Down.{root_first}
 use Rattle.filter_trie.proofs.Halves.{begins_next}
 use Rattle.filter_trie.proofs.KeyOrder.{leaves_are_counted}
@@ -109,7 +109,7 @@ module _ (ls : List Leaf) (some : 0 < height ls) (fine : IsFine (height ls) (map
 
 -- ---- nodes and their places
 
-module _ (hash_bits real_bits : ℕ) (ls : List Leaf) (valid : IsValid hash_bits real_bits ls) where
+module _ (hash_bits real_bits : ℕ) (ls : List Leaf) (valid : IsLeafList hash_bits real_bits ls) where
   has : HasTrie ls
   has = valid_lists_have_tries hash_bits real_bits ls valid
 

@@ -21,7 +21,7 @@ use Rattle.filter_model.specs.Answers.{is_past}
 use Rattle.filter_model.specs.Leaves.{Leaf}
 use Rattle.filter_model.specs.Strings.{is_prefix}
 use Rattle.filter_model.specs.Trie.{END, height, is_node, is_reached, path, slots}
-use Rattle.filter_model.specs.Valid.{IsValid}
+use Rattle.filter_model.specs.Valid.{IsLeafList}
 use Rattle.filter_trie.proofs.Down.{node_passes}
 use Rattle.filter_trie.proofs.KeyOrder.{slots_are_leaves}
 use Rattle.filter_trie.proofs.Reached.{node_before, slot_is}
@@ -139,7 +139,7 @@ at_most : (b : Bool) → cond {A = ℕ} b 1 0 ≤ 1
 at_most true = omega arith
 at_most false = omega arith
 
-module _ (hash_bits n : ℕ) (ls : List Leaf) (valid : IsValid hash_bits n ls) (nh : n ≤ 32) (x : List ℕ) (w : IsBytes x) where
+module _ (hash_bits n : ℕ) (ls : List Leaf) (valid : IsLeafList hash_bits n ls) (nh : n ≤ 32) (x : List ℕ) (w : IsBytes x) where
   has : HasTrie ls
   has = valid_lists_have_tries hash_bits n ls valid
 

@@ -11,7 +11,7 @@ use Rattle.filter_iter.specs.declared.parts.Border.{Border}
 use Rattle.filter_iter.specs.declared.parts.Pass.{Pass}
 use Rattle.filter_model.specs.Leaves.{Leaf}
 use Rattle.filter_model.specs.Trie.{END, is_reached}
-use Rattle.filter_model.specs.Valid.{IsValid}
+use Rattle.filter_model.specs.Valid.{IsLeafList}
 use Rattle.filter_trie.specs.Walks.{IsNodeAt, IsSlotAt}
 use Rattle.trie_model.specs.Rests.{first_leaf}
 
@@ -24,7 +24,7 @@ is_so false e = absurd (true≢false e)
 pub node_at : (ls : List Leaf) (x : List ℕ) (d : ℕ) (b : Border) (way : List Pass) → LeadsOn ls x d b → letters_of way ≡ take d (x ++ END ∷ []) → IsNodeAt ls b.node (letters_of way)
 node_at ls x d b way on is = subst (IsNodeAt ls b.node) (sym (is ∙ take-append-le d x (END ∷ []) on.read)) on.node
 
-module _ (hash_bits real_bits : ℕ) (ls : List Leaf) (valid : IsValid hash_bits real_bits ls) (q : List ℕ) where
+module _ (hash_bits real_bits : ℕ) (ls : List Leaf) (valid : IsLeafList hash_bits real_bits ls) (q : List ℕ) where
   -- the letters lead nowhere
   pub behind_none : is_reached ls q ≡ false → leaves_to ls q ≡ first_leaf ls q
   behind_none off = omega (arith, none_below ls q off)

@@ -17,7 +17,7 @@ use Rattle.filter_model.specs.Answers.{begins}
 use Rattle.filter_model.specs.Leaves.{Leaf}
 use Rattle.filter_model.specs.Strings.{shortest}
 use Rattle.filter_model.specs.Trie.{END, path}
-use Rattle.filter_model.specs.Valid.{IsLeaf, IsValid}
+use Rattle.filter_model.specs.Valid.{IsLeaf, IsLeafList}
 use Rattle.key_base.specs.Limits.{max_key_bytes}
 use Rattle.suffix_bits.specs.Slots.{Suffix}
 use Rattle.trie_laws.proofs.Paths.{any_leaf, path_high}
@@ -33,7 +33,7 @@ end_none : (e : Bool) → filter (λ c. nat_lt c 256) (cond e (END ∷ []) []) �
 end_none true = refl
 end_none false = refl
 
-module _ (hash_bits n : ℕ) (ls : List Leaf) (valid : IsValid hash_bits n ls) (i slot : ℕ) (way : List Pass) (to : IsWayTo ls i slot way) where
+module _ (hash_bits n : ℕ) (ls : List Leaf) (valid : IsLeafList hash_bits n ls) (i slot : ℕ) (way : List Pass) (to : IsWayTo ls i slot way) where
   abbrev leaf : Leaf
   leaf = get_or ls i any_leaf
 

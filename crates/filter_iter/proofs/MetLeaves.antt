@@ -26,7 +26,7 @@ use Rattle.filter_model.specs.Image.{in_slots}
 use Rattle.filter_model.specs.Leaves.{Leaf}
 use Rattle.filter_model.specs.Strings.{bits, is_prefix, bytes_eq}
 use Rattle.filter_model.specs.Trie.{END, height, path, slots}
-use Rattle.filter_model.specs.Valid.{IsLeaf, IsValid}
+use Rattle.filter_model.specs.Valid.{IsLeaf, IsLeafList}
 use Rattle.filter_trie.proofs.Reached.{slot_is}
 use Rattle.filter_trie.proofs.Suffixes.{leaf_count}
 use Rattle.filter_trie.specs.Walks.{IsSlotAt}
@@ -148,7 +148,7 @@ drop_taken (suc n) [] = refl
 drop_taken (suc n) (a ∷ x) = drop_taken n x
 
 -- a leaf's slot is one of as many as there are leaves
-pub slot_fits : (hash_bits n : ℕ) (ls : List Leaf) (slot : ℕ) (q : List ℕ) → IsValid hash_bits n ls → IsSlotAt ls slot q → slot < length ls
+pub slot_fits : (hash_bits n : ℕ) (ls : List Leaf) (slot : ℕ) (q : List ℕ) → IsLeafList hash_bits n ls → IsSlotAt ls slot q → slot < length ls
 slot_fits hash_bits n ls slot q valid at = omega (arith, at.within, (leaves_have_slots ls (valid_lists_have_tries hash_bits n ls valid)).as_many)
 
 pub byte_of : (b : Bool) → bool_byte b ≡ cond b 1 0
@@ -157,7 +157,7 @@ byte_of false = refl
 
 -- ---- a valid list
 
-module _ (hash_bits n : ℕ) (ls : List Leaf) (valid : IsValid hash_bits n ls) (nh : n ≤ 32) (x : List ℕ) (w : IsBytes x) where
+module _ (hash_bits n : ℕ) (ls : List Leaf) (valid : IsLeafList hash_bits n ls) (nh : n ≤ 32) (x : List ℕ) (w : IsBytes x) where
   has : HasTrie ls
   has = valid_lists_have_tries hash_bits n ls valid
 

@@ -15,7 +15,7 @@ use Rattle.filter_model.specs.Image.{sparse_louds}
 use Rattle.filter_model.specs.Leaves.{Filter}
 use Rattle.filter_model.specs.Nodes.{Node, all, first_place, trie_of}
 use Rattle.filter_model.specs.Trie.{nodes, nodes_to}
-use Rattle.filter_model.specs.Valid.{IsValid}
+use Rattle.filter_model.specs.Valid.{IsLeafList}
 use Rattle.filter_trie.proofs.Parts.{length-nodes}
 use Rattle.filter_trie.specs.Parts.{lower, upper}
 use Rattle.lane_scan.specs.Places.{IsFirstBetween}
@@ -59,7 +59,7 @@ module _ (ns : List Node) (sparse : All IsNode ns) (w : ℕ) (l : w < length ns)
 
 -- ---- in a trie
 
-module _ (hash_bits real_bits : ℕ) (i : Filter) (valid : IsValid hash_bits real_bits i.leaves) (m : Mark) (to : m.node < length (nodes i.leaves)) (is : IsMark i m) where
+module _ (hash_bits real_bits : ℕ) (i : Filter) (valid : IsLeafList hash_bits real_bits i.leaves) (m : Mark) (to : m.node < length (nodes i.leaves)) (is : IsMark i m) where
   abbrev ds : List Node
   ds = upper i.cutoff i.leaves
 

@@ -19,7 +19,7 @@ use Rattle.filter_model.specs.Answers.{is_past, ranged}
 use Rattle.filter_model.specs.Leaves.{Leaf}
 use Rattle.filter_model.specs.Nodes.{trie_of}
 use Rattle.filter_model.specs.Trie.{END, nodes}
-use Rattle.filter_model.specs.Valid.{IsValid}
+use Rattle.filter_model.specs.Valid.{IsLeafList}
 use Rattle.filter_trie.proofs.Finding.{searches_find}
 use Rattle.filter_trie.specs.Walks.{IsNodeAt}
 use Rattle.trie_laws.proofs.Forms.{order-byte}
@@ -36,7 +36,7 @@ either k m u a b l h e f = elim (cases_lt k m) [
       ap (λ (t : Bool). t || b) (e ∙ le-ltb k m more) ∙ f ∙ ap (λ (x : ℕ). nat_lt x u) (sym is)
 ]
 
-module _ (hash_bits n : ℕ) (ls : List Leaf) (valid : IsValid hash_bits n ls) (nh : n ≤ 32) (lo hi : List ℕ) (wl : IsBytes lo) (wh : IsBytes hi) where
+module _ (hash_bits n : ℕ) (ls : List Leaf) (valid : IsLeafList hash_bits n ls) (nh : n ≤ 32) (lo hi : List ℕ) (wl : IsBytes lo) (wh : IsBytes hi) where
   -- ---- where both lead alike
 
   pub shared_none : (d : ℕ) → take d lo ≡ take d hi → LeadsAlong ls lo d None → LeadsAlong ls hi d None → false ≡ ranged n ls lo hi

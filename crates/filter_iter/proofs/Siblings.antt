@@ -14,7 +14,7 @@ use Rattle.filter_model.specs.Image.{label_of}
 use Rattle.filter_model.specs.Leaves.{Filter, Leaf}
 use Rattle.filter_model.specs.Nodes.{Branch as NodeBranch, IsBranch, Node, all, at, first_place, trie_of}
 use Rattle.filter_model.specs.Trie.{END, height, nodes, places}
-use Rattle.filter_model.specs.Valid.{IsValid}
+use Rattle.filter_model.specs.Valid.{IsLeafList}
 use Rattle.filter_trie.proofs.Down.{place_is}
 use Rattle.filter_trie.proofs.Finding.{branches_lead}
 use Rattle.filter_trie.proofs.Halves.{begins_next, stands}
@@ -40,7 +40,7 @@ use Rattle.trie_model.specs.Rests.{first_leaf}
 
 -- ---- the branches of one node
 
-module _ (hash_bits real_bits : ℕ) (ls : List Leaf) (valid : IsValid hash_bits real_bits ls) (v : ℕ) (l : v < length (nodes ls)) where
+module _ (hash_bits real_bits : ℕ) (ls : List Leaf) (valid : IsLeafList hash_bits real_bits ls) (v : ℕ) (l : v < length (nodes ls)) where
   abbrev ns : List Node
   ns = trie_of ls
 
@@ -233,7 +233,7 @@ begin_within i v from to p e =
     let ss = lower i.cutoff i.leaves in
     omega (arith, e, node_within ss (v - length ds) (omega (arith, from, to, length-nodes i, length-append ds ss)))
 
-pub node_begins : (hash_bits real_bits : ℕ) (i : Filter) (v : ℕ) → IsValid hash_bits real_bits i.leaves → length (upper i.cutoff i.leaves) ≤ v → v < length (nodes i.leaves) → (s : Spot)
+pub node_begins : (hash_bits real_bits : ℕ) (i : Filter) (v : ℕ) → IsLeafList hash_bits real_bits i.leaves → length (upper i.cutoff i.leaves) ≤ v → v < length (nodes i.leaves) → (s : Spot)
     → s.place ≡ begin_of (second_half (upper i.cutoff i.leaves) (lower i.cutoff i.leaves)) v → s.end ≡ begin_of (second_half (upper i.cutoff i.leaves) (lower i.cutoff i.leaves)) (v + 1) → s.below ≡ below_place i s.place → BeginsNode i v s
 node_begins hash_bits real_bits i v valid from to s e f below =
     let ds = upper i.cutoff i.leaves in

@@ -22,7 +22,7 @@ use Rattle.filter_model.specs.Answers.{is_past}
 use Rattle.filter_model.specs.Leaves.{Leaf}
 use Rattle.filter_model.specs.Nodes.{trie_of}
 use Rattle.filter_model.specs.Trie.{END, height, is_node, is_reached, nodes}
-use Rattle.filter_model.specs.Valid.{IsValid}
+use Rattle.filter_model.specs.Valid.{IsLeafList}
 use Rattle.filter_trie.proofs.Down.{node_passes}
 use Rattle.filter_trie.proofs.KeyOrder.{slots_are_leaves}
 use Rattle.filter_trie.proofs.Reached.{node_is_reached}
@@ -61,7 +61,7 @@ pub some_lead : (ls : List Leaf) (q : List ℕ) (l : Lead) → LeadGoesTo ls q l
 some_lead ls q (lead.Node v) a = a
 some_lead ls q (lead.Leaf s) a = a
 
-module _ (hash_bits n : ℕ) (ls : List Leaf) (valid : IsValid hash_bits n ls) (nh : n ≤ 32) where
+module _ (hash_bits n : ℕ) (ls : List Leaf) (valid : IsLeafList hash_bits n ls) (nh : n ≤ 32) where
   has : HasTrie ls
   has = valid_lists_have_tries hash_bits n ls valid
 

@@ -12,7 +12,7 @@ use Rattle.filter_iter.specs.Ways.{IsLeadAt}
 use Rattle.filter_iter.specs.declared.parts.Lead.TheVariants as lead
 use Rattle.filter_model.specs.Leaves.{Filter}
 use Rattle.filter_model.specs.Nodes.{Branch, Node, all, at, children_before, leaves_before, trie_of}
-use Rattle.filter_model.specs.Valid.{IsValid}
+use Rattle.filter_model.specs.Valid.{IsLeafList}
 use Rattle.filter_trie.proofs.LevelStarts.{counts_add, nodes_within, slots_within}
 use Rattle.filter_trie.proofs.Parts.{joined}
 use Rattle.filter_trie.specs.Parts.{lower, upper}
@@ -75,7 +75,7 @@ module _ (i : Filter) where
   leads_to_leaf p slot e off = (no_child_if (trie_in i) (number p) off, e)
 
   -- all of it is small
-  module _ (hash_bits real_bits : ℕ) (valid : IsValid hash_bits real_bits i.leaves) where
+  module _ (hash_bits real_bits : ℕ) (valid : IsLeafList hash_bits real_bits i.leaves) where
     pub slot_small : (p : ℕ) → slot_at (trie_in i) (number p) ≤ length i.leaves
     slot_small p = slots_within i.leaves (number p) (valid_lists_have_tries hash_bits real_bits i.leaves valid)
 

@@ -13,7 +13,7 @@ use Rattle.filter_iter.specs.declared.parts.Pass.{Pass}
 use Rattle.filter_model.specs.Leaves.{Leaf}
 use Rattle.filter_model.specs.Strings.{is_prefix}
 use Rattle.filter_model.specs.Trie.{END, height, path}
-use Rattle.filter_model.specs.Valid.{IsValid}
+use Rattle.filter_model.specs.Valid.{IsLeafList}
 use Rattle.filter_trie.proofs.KeyOrder.{slots_are_leaves}
 use Rattle.filter_trie.specs.Walks.{IsSlotAt}
 use Rattle.trie_model.specs.Rests.{first_leaf, leaves_below}
@@ -22,7 +22,7 @@ begins_longer : (q r : List ℕ) → is_prefix q (q ++ r) ≡ true
 begins_longer [] r = refl
 begins_longer (a ∷ q) r = λ j. eq-eqb a a refl j && begins_longer q r j
 
-module _ (hash_bits real_bits : ℕ) (ls : List Leaf) (valid : IsValid hash_bits real_bits ls) where
+module _ (hash_bits real_bits : ℕ) (ls : List Leaf) (valid : IsLeafList hash_bits real_bits ls) where
   sorted : Sorted (map path ls)
   sorted = (fine_paths hash_bits real_bits ls valid (height ls) (omega arith)).sorted
 

@@ -6,7 +6,7 @@ use Rattle.std.proofs.lemmas.List.Concat.{flat_map-append}
 use Rattle.std.proofs.lemmas.List.Elements.{filter-append}
 use Rattle.std.proofs.lemmas.List.Sums.{length-filter, sum_by-take-le}
 use native.Mathlib.Nat.{mul-le-mul_right}
-use Rattle.filter_api.specs.Spellings.{MayStand}
+use Rattle.filter_api.specs.Spellings.{MayBeTrie}
 use Rattle.filter_image_model.proofs.OneImage.{room}
 use Rattle.filter_image_model.proofs.Paths.{fine_paths, trie_flat}
 use Rattle.filter_image_model.proofs.Sizes.{few_nodes, low_height, total_of}
@@ -14,7 +14,7 @@ use Rattle.filter_iter.proofs.Counts.{behind_first, leaves-trie_of}
 use Rattle.filter_model.specs.Leaves.{Filter, Leaf}
 use Rattle.filter_model.specs.Nodes.{Branch, Node, all, children_before, first_place, leaves_before, trie_of}
 use Rattle.filter_model.specs.Trie.{branches, height, is_node, level, nodes, nodes_to, path, places, slots}
-use Rattle.filter_model.specs.Valid.{IsValid}
+use Rattle.filter_model.specs.Valid.{IsLeafList}
 use Rattle.filter_trie.proofs.Levels.{levels_within}
 use Rattle.filter_trie.proofs.Parts.{joined}
 use Rattle.filter_trie.specs.Parts.{lower, upper}
@@ -109,7 +109,7 @@ pub place_within : (ls : List Leaf) (v : ℕ) → v ≤ length (nodes ls) → fi
 place_within ls v l = omega (arith, node_within (trie_of ls) v (omega (arith, l, length-trie_of ls)), length-all ls)
 
 -- a node's number is small
-pub node_fits : (hash_bits real_bits : ℕ) (ls : List Leaf) → IsValid hash_bits real_bits ls → length (nodes ls) < 2 ^ 63
+pub node_fits : (hash_bits real_bits : ℕ) (ls : List Leaf) → IsLeafList hash_bits real_bits ls → length (nodes ls) < 2 ^ 63
 node_fits hash_bits real_bits ls valid =
     let h = height ls in
     let fine = fine_paths hash_bits real_bits ls valid h (omega arith) in
@@ -119,7 +119,7 @@ node_fits hash_bits real_bits ls valid =
     omega (arith, few, low, many, ap (λ (ns : List Node). length ns) (trie_flat ls h (omega arith) fine), length-trie_of ls)
 
 -- where the dense half has no leaf, none stands before its places
-pub none_before_dense : (i : Filter) (p : ℕ) → MayStand i.hash_bits i.real_bits i.cutoff i.leaves → leaves_before (upper i.cutoff i.leaves) (length (all (upper i.cutoff i.leaves))) ≡ 0
+pub none_before_dense : (i : Filter) (p : ℕ) → MayBeTrie i.hash_bits i.real_bits i.cutoff i.leaves → leaves_before (upper i.cutoff i.leaves) (length (all (upper i.cutoff i.leaves))) ≡ 0
     → slot_at (trie_in i) (branches_before (upper i.cutoff i.leaves) p) ≡ 0
 none_before_dense i p stands none =
     let ds = upper i.cutoff i.leaves in

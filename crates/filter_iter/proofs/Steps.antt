@@ -12,7 +12,7 @@ use Rattle.filter_iter.specs.declared.parts.Border.{Border}
 use Rattle.filter_model.specs.Leaves.{Leaf}
 use Rattle.filter_model.specs.Nodes.{Node, children_before, first_place, leaves_before, trie_of}
 use Rattle.filter_model.specs.Trie.{height, nodes, nodes_to, path, places}
-use Rattle.filter_model.specs.Valid.{IsValid}
+use Rattle.filter_model.specs.Valid.{IsLeafList}
 use Rattle.filter_trie.proofs.LevelStarts.{nodes_within as nodes_below}
 use Rattle.filter_trie.specs.LevelStarts.{slots_down}
 use Rattle.trie_laws.proofs.Places.{length-trie_of}
@@ -36,7 +36,7 @@ first_leaf_within ls p = omega (arith, start_within p (map path ls), length-map 
 pub one_more : (k n : ℕ) → (k + 1) * n ≡ k * n + n
 one_more k n = omega arith
 
-module _ (hash_bits real_bits : ℕ) (ls : List Leaf) (valid : IsValid hash_bits real_bits ls) where
+module _ (hash_bits real_bits : ℕ) (ls : List Leaf) (valid : IsLeafList hash_bits real_bits ls) where
   abbrev ns : List Node
   ns = trie_of ls
 

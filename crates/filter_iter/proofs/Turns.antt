@@ -22,7 +22,7 @@ use Rattle.filter_model.specs.Image.{label_of}
 use Rattle.filter_model.specs.Leaves.{Leaf}
 use Rattle.filter_model.specs.Nodes.{Branch, Node, at, first_place, last_letter, trie_of}
 use Rattle.filter_model.specs.Trie.{height, is_reached, nodes, path}
-use Rattle.filter_model.specs.Valid.{IsValid}
+use Rattle.filter_model.specs.Valid.{IsLeafList}
 use Rattle.filter_trie.proofs.Down.{node_passes}
 use Rattle.filter_trie.proofs.Finding.{branches_lead, searches_find}
 use Rattle.filter_trie.proofs.Halves.{begins_next}
@@ -83,7 +83,7 @@ none_less x y z l m = le-ltb x y l ∙ sym (le-ltb x z m)
 order_high : (a : ℕ) → 256 < a → order_of a ≡ suc a
 order_high a l = ap (λ (t : Bool). cond t 0 (suc a)) (ne_eqb a 256 (λ e. omega (arith, l, e)))
 
-module _ (hash_bits real_bits : ℕ) (ls : List Leaf) (valid : IsValid hash_bits real_bits ls) (v c : ℕ) (l : v < length (nodes ls)) (byte : c < 256) where
+module _ (hash_bits real_bits : ℕ) (ls : List Leaf) (valid : IsLeafList hash_bits real_bits ls) (v c : ℕ) (l : v < length (nodes ls)) (byte : c < 256) where
   abbrev ns : List Node
   ns = trie_of ls
 

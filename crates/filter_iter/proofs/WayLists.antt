@@ -10,7 +10,7 @@ use Rattle.filter_iter.specs.declared.parts.Pass.{Pass}
 use Rattle.filter_iter.specs.declared.parts.Spot.{Spot}
 use Rattle.filter_model.specs.Leaves.{Leaf}
 use Rattle.filter_model.specs.Trie.{END, height, is_node, nodes}
-use Rattle.filter_model.specs.Valid.{IsValid}
+use Rattle.filter_model.specs.Valid.{IsLeafList}
 use Rattle.filter_trie.proofs.Down.{node_passes}
 use Rattle.filter_trie.specs.Walks.{IsNodeAt}
 use Rattle.trie_laws.proofs.NodeLists.{height_above}
@@ -93,9 +93,9 @@ pushed ls way next v b s w a has e =
     }
 
 -- a node is above the last level
-pub node_low : (hash_bits real_bits : ℕ) (ls : List Leaf) (v : ℕ) (p : List ℕ) → IsValid hash_bits real_bits ls → IsNodeAt ls v p → length p < height ls
+pub node_low : (hash_bits real_bits : ℕ) (ls : List Leaf) (v : ℕ) (p : List ℕ) → IsLeafList hash_bits real_bits ls → IsNodeAt ls v p → length p < height ls
 node_low hash_bits real_bits ls v p valid a = height_above ls p (ap (is_node ls) (sym a.is) ∙ node_passes ls (some_height hash_bits real_bits ls valid) v a.within)
 
 -- a way to a node has fewer passes than the trie has levels
-pub way_low : (hash_bits real_bits : ℕ) (ls : List Leaf) (v : ℕ) (way : List Pass) → IsValid hash_bits real_bits ls → IsNodeAt ls v (letters_of way) → length way < height ls
+pub way_low : (hash_bits real_bits : ℕ) (ls : List Leaf) (v : ℕ) (way : List Pass) → IsLeafList hash_bits real_bits ls → IsNodeAt ls v (letters_of way) → length way < height ls
 way_low hash_bits real_bits ls v way valid a = omega (arith, node_low hash_bits real_bits ls v (letters_of way) valid a, length-letters way)

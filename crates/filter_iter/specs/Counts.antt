@@ -4,7 +4,7 @@ use Rattle.std.specs.Prelude.{◌≡◌, ℕ, ◌+◌, ◌≤◌, List, length, 
 use Rattle.filter_model.specs.Leaves.{Leaf}
 use Rattle.filter_model.specs.Nodes.{first_place, leaves_before, trie_of}
 use Rattle.filter_model.specs.Trie.{nodes}
-use Rattle.filter_model.specs.Valid.{IsValid}
+use Rattle.filter_model.specs.Valid.{IsLeafList}
 use Rattle.trie_model.specs.Halves.{first_below, whole}
 use Rattle.trie_model.specs.Rests.{leaves_below}
 
@@ -16,5 +16,5 @@ below_first ls v = sum_by (leaves_below ls) (take v (nodes ls))
 -- These are the first ones behind the root, below which all leaves stand
 abbrev pub LeavesAreCountedByLevels : Type 0
 LeavesAreCountedByLevels =
-    (hash_bits real_bits : ℕ) (ls : List Leaf) (v : ℕ) → IsValid hash_bits real_bits ls → v ≤ length (nodes ls)
+    (hash_bits real_bits : ℕ) (ls : List Leaf) (v : ℕ) → IsLeafList hash_bits real_bits ls → v ≤ length (nodes ls)
     → below_first ls v + length ls ≡ leaves_before (trie_of ls) (first_place (trie_of ls) v) + below_first ls (first_below (whole (trie_of ls)) (first_place (trie_of ls) v))

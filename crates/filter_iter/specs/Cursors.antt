@@ -1,7 +1,7 @@
 -- What a cursor stands at.
 use Rattle.std.specs.Prelude.{ℕ, ◌≤◌, List, [], get_or, map}
 use Rattle.std.specs.List.{All}
-use Rattle.filter_api.specs.Spellings.{MayStand}
+use Rattle.filter_api.specs.Spellings.{MayBeTrie}
 use Rattle.filter_iter.specs.Spots.{HasSpot, IsMark}
 use Rattle.filter_iter.specs.Ways.{IsWayTo}
 use Rattle.filter_iter.specs.declared.parts.Mark.{Mark}
@@ -26,7 +26,7 @@ IsSlotOf ls n slot = IsSlotAt ls slot (get_or (map path ls) n [])
 
 -- the way goes to the leaf, whose slot this is, knows where its branches stand, if anything, and has room for every other
 pub record IsStanding (i : Filter) (leaf slot : ℕ) (way : SmallVec Pass) (kept : SmallVec Mark) : Type 0 where
-  pub stands : MayStand i.hash_bits i.real_bits i.cutoff i.leaves
+  pub stands : MayBeTrie i.hash_bits i.real_bits i.cutoff i.leaves
   pub to : IsWayTo i.leaves leaf slot way.items
   pub spots : All (HasSpot i) way.items
   pub marks : All (IsMark i) kept.items

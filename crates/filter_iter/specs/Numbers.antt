@@ -1,6 +1,6 @@
 -- The way to the leaf of a number.
 use Rattle.std.specs.Prelude.{◌≡◌, ℕ, ◌+◌, ◌<◌, ◌≤◌, List, [], ◌∷◌, ◌++◌, get_or, length, map, MatchOption, Option}
-use Rattle.filter_api.specs.Spellings.{MayStand}
+use Rattle.filter_api.specs.Spellings.{MayBeTrie}
 use Rattle.filter_iter.specs.Borders.{IsBorder, leaves_at}
 use Rattle.filter_iter.specs.declared.parts.Border.{Border}
 use Rattle.filter_iter.specs.declared.parts.Step.{Step}
@@ -12,7 +12,7 @@ use Rattle.trie_model.specs.Rests.{first_leaf, leaves_below}
 
 -- a border stands at a node, that of some letters: so many leaves come before it as before these
 pub record StandsAtNode (i : Filter) (b : Border) (depth levels : ℕ) : Type 0 where
-  pub stands : MayStand i.hash_bits i.real_bits i.cutoff i.leaves
+  pub stands : MayBeTrie i.hash_bits i.real_bits i.cutoff i.leaves
   pub height : levels ≡ height_of i.leaves
   pub node : b.node < length (nodes i.leaves)
   pub level : depth ≡ length (get_or (nodes i.leaves) b.node [])

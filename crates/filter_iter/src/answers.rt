@@ -1,6 +1,6 @@
 //! What a trie answers of bounds and ranges.
 ghost use Rattle.std.specs.Prelude.{◌≡◌, ◌+◌, ◌<◌, ◌≤◌, IfNone, drop, length};
-ghost use Rattle.filter_api.specs.Spellings.{MayStand};
+ghost use Rattle.filter_api.specs.Spellings.{MayBeTrie};
 ghost use Rattle.filter_iter.specs.Borders.{IsReached, reached_begun, reached_past};
 ghost use Rattle.filter_iter.specs.Cuts.{FirstPass, has_begun};
 ghost use Rattle.filter_model.specs.Answers.{first, is_past, tally as tally_of};
@@ -39,7 +39,7 @@ pub(crate) fn is_reached_begun<A: Allocator>(trie: &Trie<A>, hi: &[u8], leaf: Re
 
 /// How many leaves are past `lo` beside those that come before it: the one that it reaches, or none.
 pub(crate) fn past_at<A: Allocator>(trie: &Trie<A>, lo: &[u8], leaf: Option<Reached>) -> u64
-    requires stands { MayStand trie.now.hash_bits trie.now.real_bits trie.now.cutoff trie.now.leaves }
+    requires stands { MayBeTrie trie.now.hash_bits trie.now.real_bits trie.now.cutoff trie.now.leaves }
     requires reached { IsReached trie.now.leaves lo.now leaf }
     ensures past { FirstPass (is_past trie.now.real_bits lo.now) trie.now.leaves (first_leaf trie.now.leaves lo.now + result) }
     ensures most { result ≤ 1 }
@@ -53,7 +53,7 @@ pub(crate) fn past_at<A: Allocator>(trie: &Trie<A>, lo: &[u8], leaf: Option<Reac
 
 // How many leaves begin at or below `hi` beside those that come before it.
 fn begun_at<A: Allocator>(trie: &Trie<A>, hi: &[u8], leaf: Option<Reached>) -> u64
-    requires stands { MayStand trie.now.hash_bits trie.now.real_bits trie.now.cutoff trie.now.leaves }
+    requires stands { MayBeTrie trie.now.hash_bits trie.now.real_bits trie.now.cutoff trie.now.leaves }
     requires reached { IsReached trie.now.leaves hi.now leaf }
     ensures begun { FirstPass (has_begun trie.now.real_bits hi.now) trie.now.leaves (first_leaf trie.now.leaves hi.now + result) }
     ensures most { result ≤ 1 }
@@ -66,7 +66,7 @@ fn begun_at<A: Allocator>(trie: &Trie<A>, hi: &[u8], leaf: Option<Reached>) -> u
 
 // How many leaves are past `lo`. They are the first ones in key order.
 fn count_past<A: Allocator>(trie: &Trie<A>, lo: &[u8]) -> u64
-    ensures stands { MayStand trie.now.hash_bits trie.now.real_bits trie.now.cutoff trie.now.leaves }
+    ensures stands { MayBeTrie trie.now.hash_bits trie.now.real_bits trie.now.cutoff trie.now.leaves }
     ensures past { FirstPass (is_past trie.now.real_bits lo.now) trie.now.leaves result }
 {
     let height = usize::from(trie.height());

@@ -1,7 +1,7 @@
 //! Whether some leaf may stand for a key of a range, by one way down: by the bytes with which both bounds begin, and from
 //! the node where they part by those of each.
 ghost use Rattle.std.specs.Prelude.{◌≡◌, ◌≢◌, ◌+◌, ◌++◌, ◌∷◌, [], ◌<◌, ◌≤◌, false, get_or, length, nat_lt, slice_index, take};
-ghost use Rattle.filter_api.specs.Spellings.{MayStand};
+ghost use Rattle.filter_api.specs.Spellings.{MayBeTrie};
 ghost use Rattle.filter_iter.specs.Between.{LeadsAlong, LeadsIf, TellsFrom, TellsTo};
 ghost use Rattle.filter_iter.specs.Ways.{leaves_to};
 ghost use Rattle.filter_model.specs.Answers.{ranged};
@@ -17,17 +17,17 @@ use std::alloc::Allocator;
 
 // The root of the trie.
 fn root<A: Allocator>(trie: &Trie<A>) -> u64
-    ensures stands { MayStand trie.now.hash_bits trie.now.real_bits trie.now.cutoff trie.now.leaves }
+    ensures stands { MayBeTrie trie.now.hash_bits trie.now.real_bits trie.now.cutoff trie.now.leaves }
     ensures node { IsNodeAt trie.now.leaves result [] }
 {
-    // The clause of the height says that the leaves are a list that may stand.
+    // The clause of the height says that the leaves are a leaf list.
     let _ = trie.height();
     0
 }
 
 // Where a node's branch by a byte leads, if it has one.
 fn lead_by<A: Allocator>(trie: &Trie<A>, node: u64, byte: u8) -> Option<Lead>
-    requires stands { MayStand trie.now.hash_bits trie.now.real_bits trie.now.cutoff trie.now.leaves }
+    requires stands { MayBeTrie trie.now.hash_bits trie.now.real_bits trie.now.cutoff trie.now.leaves }
     requires node { node < length (nodes trie.now.leaves) }
     ensures { LeadsIf trie.now.leaves (get_or (nodes trie.now.leaves) node [] ++ byte ∷ []) result }
 {
@@ -50,7 +50,7 @@ fn met(slot: u64, stub: usize) -> Reached
 
 // Whether a node has a branch behind that of a byte.
 fn has_behind<A: Allocator>(trie: &Trie<A>, node: u64, byte: u8) -> bool
-    requires stands { MayStand trie.now.hash_bits trie.now.real_bits trie.now.cutoff trie.now.leaves }
+    requires stands { MayBeTrie trie.now.hash_bits trie.now.real_bits trie.now.cutoff trie.now.leaves }
     requires node { node < length (nodes trie.now.leaves) }
     ensures order { leaves_to trie.now.leaves (get_or (nodes trie.now.leaves) node [] ++ byte ∷ []) ≤ leaves_to trie.now.leaves (get_or (nodes trie.now.leaves) node []) }
     ensures behind { result ≡ nat_lt (leaves_to trie.now.leaves (get_or (nodes trie.now.leaves) node [] ++ byte ∷ [])) (leaves_to trie.now.leaves (get_or (nodes trie.now.leaves) node [])) }
@@ -60,7 +60,7 @@ fn has_behind<A: Allocator>(trie: &Trie<A>, node: u64, byte: u8) -> bool
 
 // Whether some leaf behind the first `read` bytes of `lo` is not past it. They lead to `lead`.
 fn some_from<A: Allocator>(trie: &Trie<A>, lead: Option<Lead>, lo: &[u8], read: usize) -> bool
-    requires stands { MayStand trie.now.hash_bits trie.now.real_bits trie.now.cutoff trie.now.leaves }
+    requires stands { MayBeTrie trie.now.hash_bits trie.now.real_bits trie.now.cutoff trie.now.leaves }
     requires read { read ≤ length lo.now }
     requires leads { LeadsAlong trie.now.leaves lo.now read lead }
     ensures { TellsFrom trie.now.real_bits trie.now.leaves lo.now (take read lo.now) result }
@@ -88,7 +88,7 @@ fn some_from<A: Allocator>(trie: &Trie<A>, lead: Option<Lead>, lo: &[u8], read: 
 
 // Whether some leaf behind the first `read` bytes of `hi` begins at or below it. They lead to `lead`.
 fn some_to<A: Allocator>(trie: &Trie<A>, lead: Option<Lead>, hi: &[u8], read: usize) -> bool
-    requires stands { MayStand trie.now.hash_bits trie.now.real_bits trie.now.cutoff trie.now.leaves }
+    requires stands { MayBeTrie trie.now.hash_bits trie.now.real_bits trie.now.cutoff trie.now.leaves }
     requires read { read ≤ length hi.now }
     requires leads { LeadsAlong trie.now.leaves hi.now read lead }
     ensures { TellsTo trie.now.real_bits trie.now.leaves hi.now (take read hi.now) result }
@@ -117,7 +117,7 @@ fn some_to<A: Allocator>(trie: &Trie<A>, lead: Option<Lead>, hi: &[u8], read: us
 
 // Whether a node has a branch between two bytes, of which the first is the lesser.
 fn has_between<A: Allocator>(trie: &Trie<A>, node: u64, from: u8, to: u8) -> bool
-    requires stands { MayStand trie.now.hash_bits trie.now.real_bits trie.now.cutoff trie.now.leaves }
+    requires stands { MayBeTrie trie.now.hash_bits trie.now.real_bits trie.now.cutoff trie.now.leaves }
     requires node { node < length (nodes trie.now.leaves) }
     requires order { from < to }
     ensures order { leaves_to trie.now.leaves (get_or (nodes trie.now.leaves) node [] ++ from ∷ []) ≤ first_leaf trie.now.leaves (get_or (nodes trie.now.leaves) node [] ++ to ∷ []) }
@@ -131,7 +131,7 @@ fn has_between<A: Allocator>(trie: &Trie<A>, node: u64, from: u8, to: u8) -> boo
 
 // The answer from the node to which the first `read` bytes of both bounds lead, where their next bytes differ.
 fn parted<A: Allocator>(trie: &Trie<A>, node: u64, lo: &[u8], hi: &[u8], read: usize) -> bool
-    requires stands { MayStand trie.now.hash_bits trie.now.real_bits trie.now.cutoff trie.now.leaves }
+    requires stands { MayBeTrie trie.now.hash_bits trie.now.real_bits trie.now.cutoff trie.now.leaves }
     requires node { IsNodeAt trie.now.leaves node (take read lo.now) }
     requires alike { take read lo.now ≡ take read hi.now }
     requires lo_on { read < length lo.now }

@@ -3,7 +3,7 @@
 //! On each level the leaves before the border are counted, those before the level among them. What stands before the levels
 //! is the same for every bound, so that it is taken off once and at the end.
 ghost use Rattle.std.specs.Prelude.{◌≡◌, ◌+◌, ◌<◌, ◌≤◌, ◌^◌, length};
-ghost use Rattle.filter_api.specs.Spellings.{MayStand};
+ghost use Rattle.filter_api.specs.Spellings.{MayBeTrie};
 ghost use Rattle.filter_iter.specs.Borders.{IsBorder, leaves_at};
 ghost use Rattle.filter_model.specs.Trie.{height as height_of, nodes};
 ghost use Rattle.filter_trie.specs.Places.{IsWithin, branch_number, trie as trie_in};
@@ -24,7 +24,7 @@ pub(crate) fn root_border() -> Border
 /// How many leaves stand before a place, and the first node whose branch stands there or later. Where the dense half has no
 /// leaf, none stands before its places, and the nodes alone are counted.
 pub(crate) fn before<A: Allocator>(trie: &Trie<A>, place: Place) -> (u64, u64)
-    requires stands { MayStand trie.now.hash_bits trie.now.real_bits trie.now.cutoff trie.now.leaves }
+    requires stands { MayBeTrie trie.now.hash_bits trie.now.real_bits trie.now.cutoff trie.now.leaves }
     requires place { IsWithin trie.now place }
     ensures slots { result.0 ≡ slot_at (trie_in trie.now) (branch_number trie.now place) }
     ensures below { result.1 ≡ first_below (trie_in trie.now) (branch_number trie.now place) }
@@ -58,7 +58,7 @@ pub(crate) fn leaves_before<A: Allocator>(
     level: usize,
     height: usize,
 ) -> u64
-    requires stands { MayStand trie.now.hash_bits trie.now.real_bits trie.now.cutoff trie.now.leaves }
+    requires stands { MayBeTrie trie.now.hash_bits trie.now.real_bits trie.now.cutoff trie.now.leaves }
     requires height { height ≡ height_of trie.now.leaves }
     requires border { IsBorder trie.now.leaves level border }
     requires few { leaves_at trie.now.leaves level border ≤ length trie.now.leaves }

@@ -1,7 +1,7 @@
 //! The branches of a node in key order: END comes before every byte.
 ghost use Rattle.std.specs.Prelude.{◌≡◌, ◌+◌, ◌++◌, ◌∷◌, [], ◌<◌, ◌≤◌, IfSome, get_or, length};
 ghost use Rattle.std.specs.Option.{option_map};
-ghost use Rattle.filter_api.specs.Spellings.{MayStand};
+ghost use Rattle.filter_api.specs.Spellings.{MayBeTrie};
 ghost use Rattle.filter_iter.specs.Spots.{HasSpot, IsFirstBranch, IsSpotIfKnown};
 ghost use Rattle.filter_iter.specs.Ways.{HasBranch, IsBranchAt, IsEndBranch, IsLeadAt, IsNextAt, IsPrevAt, leaves_before_byte, leaves_to};
 ghost use Rattle.filter_model.specs.Trie.{END, nodes};
@@ -63,7 +63,7 @@ fn end_branch<A: Allocator>(trie: &Trie<A>, node: u64) -> Option<Branch>
 
 // The first branch of a node by a byte from one on; `from` is at most 256.
 fn branch_from<A: Allocator>(trie: &Trie<A>, node: u64, from: u16) -> Option<Branch>
-    requires stands { MayStand trie.now.hash_bits trie.now.real_bits trie.now.cutoff trie.now.leaves }
+    requires stands { MayBeTrie trie.now.hash_bits trie.now.real_bits trie.now.cutoff trie.now.leaves }
     requires node { node < length (nodes trie.now.leaves) }
     requires from { from ≤ 256 }
     ensures { IsNextAt trie.now.leaves (get_or (nodes trie.now.leaves) node []) (leaves_before_byte trie.now.leaves (get_or (nodes trie.now.leaves) node []) from) result }
@@ -76,7 +76,7 @@ fn branch_from<A: Allocator>(trie: &Trie<A>, node: u64, from: u16) -> Option<Bra
 
 /// The branch of a node that comes next behind a letter.
 pub(crate) fn branch_behind<A: Allocator>(trie: &Trie<A>, node: u64, letter: u16) -> Option<Branch>
-    requires stands { MayStand trie.now.hash_bits trie.now.real_bits trie.now.cutoff trie.now.leaves }
+    requires stands { MayBeTrie trie.now.hash_bits trie.now.real_bits trie.now.cutoff trie.now.leaves }
     requires node { node < length (nodes trie.now.leaves) }
     requires letter { letter ≤ END }
     ensures { IsNextAt trie.now.leaves (get_or (nodes trie.now.leaves) node []) (leaves_to trie.now.leaves (get_or (nodes trie.now.leaves) node [] ++ letter ∷ [])) result }
@@ -86,7 +86,7 @@ pub(crate) fn branch_behind<A: Allocator>(trie: &Trie<A>, node: u64, letter: u16
 
 // The last branch of a node by END or a byte below one; `below` is at most 256.
 fn branch_below<A: Allocator>(trie: &Trie<A>, node: u64, below: u16) -> Option<Branch>
-    requires stands { MayStand trie.now.hash_bits trie.now.real_bits trie.now.cutoff trie.now.leaves }
+    requires stands { MayBeTrie trie.now.hash_bits trie.now.real_bits trie.now.cutoff trie.now.leaves }
     requires node { node < length (nodes trie.now.leaves) }
     requires below { below ≤ 256 }
     ensures { IsPrevAt trie.now.leaves (get_or (nodes trie.now.leaves) node []) (leaves_before_byte trie.now.leaves (get_or (nodes trie.now.leaves) node []) below) result }
@@ -99,7 +99,7 @@ fn branch_below<A: Allocator>(trie: &Trie<A>, node: u64, below: u16) -> Option<B
 
 /// The branch of a node that comes next before a letter.
 pub(crate) fn branch_before<A: Allocator>(trie: &Trie<A>, node: u64, letter: u16) -> Option<Branch>
-    requires stands { MayStand trie.now.hash_bits trie.now.real_bits trie.now.cutoff trie.now.leaves }
+    requires stands { MayBeTrie trie.now.hash_bits trie.now.real_bits trie.now.cutoff trie.now.leaves }
     requires node { node < length (nodes trie.now.leaves) }
     requires letter { letter ≤ END }
     ensures { IsPrevAt trie.now.leaves (get_or (nodes trie.now.leaves) node []) (first_leaf trie.now.leaves (get_or (nodes trie.now.leaves) node [] ++ letter ∷ [])) result }
@@ -116,7 +116,7 @@ pub(crate) fn branch_after<A: Allocator>(
     trie: &Trie<A>,
     pass: Pass,
 ) -> Option<(Branch, Option<Spot>)>
-    requires stands { MayStand trie.now.hash_bits trie.now.real_bits trie.now.cutoff trie.now.leaves }
+    requires stands { MayBeTrie trie.now.hash_bits trie.now.real_bits trie.now.cutoff trie.now.leaves }
     requires node { pass.node < length (nodes trie.now.leaves) }
     requires letter { pass.letter ≤ END }
     requires spot { HasSpot trie.now pass }
@@ -137,7 +137,7 @@ pub(crate) fn branch_after<A: Allocator>(
 
 /// The first branch of a node, and its spot where the node is in the sparse half.
 pub(crate) fn first_branch<A: Allocator>(trie: &Trie<A>, node: u64) -> (Branch, Option<Spot>)
-    requires stands { MayStand trie.now.hash_bits trie.now.real_bits trie.now.cutoff trie.now.leaves }
+    requires stands { MayBeTrie trie.now.hash_bits trie.now.real_bits trie.now.cutoff trie.now.leaves }
     requires node { node < length (nodes trie.now.leaves) }
     ensures branch { IsFirstBranch trie.now.leaves node result.0 }
     ensures spot { IsSpotIfKnown trie.now node result.0.letter result.1 }
@@ -150,7 +150,7 @@ pub(crate) fn first_branch<A: Allocator>(trie: &Trie<A>, node: u64) -> (Branch, 
 
 // The first branch of a node, searched for.
 fn first_by_search<A: Allocator>(trie: &Trie<A>, node: u64) -> Branch
-    requires stands { MayStand trie.now.hash_bits trie.now.real_bits trie.now.cutoff trie.now.leaves }
+    requires stands { MayBeTrie trie.now.hash_bits trie.now.real_bits trie.now.cutoff trie.now.leaves }
     requires node { node < length (nodes trie.now.leaves) }
     ensures { IsFirstBranch trie.now.leaves node result }
 {
@@ -165,7 +165,7 @@ fn first_by_search<A: Allocator>(trie: &Trie<A>, node: u64) -> Branch
 
 /// The last branch of a node.
 pub(crate) fn last_branch<A: Allocator>(trie: &Trie<A>, node: u64) -> Branch
-    requires stands { MayStand trie.now.hash_bits trie.now.real_bits trie.now.cutoff trie.now.leaves }
+    requires stands { MayBeTrie trie.now.hash_bits trie.now.real_bits trie.now.cutoff trie.now.leaves }
     requires node { node < length (nodes trie.now.leaves) }
     ensures branch { HasBranch trie.now.leaves (get_or (nodes trie.now.leaves) node []) result }
     ensures last { leaves_to trie.now.leaves (get_or (nodes trie.now.leaves) node [] ++ result.letter ∷ []) ≡ leaves_to trie.now.leaves (get_or (nodes trie.now.leaves) node []) }

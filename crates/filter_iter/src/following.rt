@@ -2,7 +2,7 @@
 ghost use Rattle.std.specs.Prelude.{◌≡◌, ◌+◌, ◌<◌, ◌≤◌, ◌++◌, ◌∷◌, [], IfNone, IfSome, get_or, length};
 ghost use Rattle.std.specs.List.{All};
 ghost use Rattle.std.specs.Option.{option_map};
-ghost use Rattle.filter_api.specs.Spellings.{MayStand};
+ghost use Rattle.filter_api.specs.Spellings.{MayBeTrie};
 ghost use Rattle.filter_iter.specs.Borders.{HasLeft, IsBorder, LeadsToReached};
 ghost use Rattle.filter_iter.specs.Spots.{HasSpot, IsMark};
 ghost use Rattle.filter_iter.specs.Ways.{IsWay, IsWayTo, LeadGoesTo, letters_of};
@@ -40,7 +40,7 @@ fn follow_along<A: Allocator, B: Allocator>(
 ) -> (Descent, usize)
     requires empty { way.old.items ≡ [] }
     requires room { height_of trie.now.leaves ≤ way.old.capacity }
-    ensures stands { MayStand trie.now.hash_bits trie.now.real_bits trie.now.cutoff trie.now.leaves }
+    ensures stands { MayBeTrie trie.now.hash_bits trie.now.real_bits trie.now.cutoff trie.now.leaves }
     ensures border { IsBorder trie.now.leaves result.1 result.0.border }
     ensures left { HasLeft trie.now.leaves bound.now result.1 result.0 }
     ensures way { IsWay trie.now.leaves way.new.items }
@@ -74,7 +74,7 @@ fn turn_from<A: Allocator, B: Allocator>(
     way: &mut Way<'_, B>,
     marks: &mut Marks<'_, B>,
 ) -> Lead
-    requires stands { MayStand trie.now.hash_bits trie.now.real_bits trie.now.cutoff trie.now.leaves }
+    requires stands { MayBeTrie trie.now.hash_bits trie.now.real_bits trie.now.cutoff trie.now.leaves }
     requires leaf { LeadsToReached trie.now.leaves (letters_of way.old.items) leaf }
     requires one { past ≤ 1 }
     requires none { IfNone leaf (past ≡ 0) }
@@ -116,7 +116,7 @@ pub(crate) fn go_to<A: Allocator, B: Allocator>(
     requires empty { way.old.items ≡ [] }
     requires room { height_of trie.now.leaves ≤ way.old.capacity }
     requires marks { All (IsMark trie.now) marks.old.items }
-    ensures stands { MayStand trie.now.hash_bits trie.now.real_bits trie.now.cutoff trie.now.leaves }
+    ensures stands { MayBeTrie trie.now.hash_bits trie.now.real_bits trie.now.cutoff trie.now.leaves }
     ensures number { option_map (λ found. found.0) result ≡ first trie.now.real_bits trie.now.leaves lo.now }
     ensures way { IfSome result (λ found. IsWayTo trie.now.leaves found.0 found.1 way.new.items) }
     ensures spots { All (HasSpot trie.now) way.new.items }

@@ -1,7 +1,7 @@
 //! The least string that fits a leaf.
 ghost use Rattle.std.specs.Prelude.{◌≡◌, ◌+◌, ◌++◌, ◌<◌, ◌≤◌, length, slice_get, take, IfOk, IfSome, OnErr, OnOk};
 ghost use Rattle.std.specs.List.{splice};
-ghost use Rattle.filter_api.specs.Spellings.{MayStand};
+ghost use Rattle.filter_api.specs.Spellings.{MayBeTrie};
 ghost use Rattle.filter_iter.specs.Ways.{IsWayTo};
 ghost use Rattle.filter_model.specs.Answers.{begins};
 ghost use Rattle.key_base.specs.Limits.{max_key_bytes};
@@ -34,7 +34,7 @@ fn write_least<A: Allocator>(
     way: &[Pass],
     least: &mut [u8],
 ) -> usize
-    requires stands { MayStand trie.now.hash_bits trie.now.real_bits trie.now.cutoff trie.now.leaves }
+    requires stands { MayBeTrie trie.now.hash_bits trie.now.real_bits trie.now.cutoff trie.now.leaves }
     requires way { IsWayTo trie.now.leaves _n slot way.now }
     requires room { max_key_bytes + 4 ≤ length least.old }
     ensures least { IfSome (slice_get trie.now.leaves _n) (λ l. take result least.new ≡ begins trie.now.real_bits l) }
@@ -56,7 +56,7 @@ pub(crate) fn push_least<A: Allocator, B: Allocator>(
     way: &[Pass],
     out: &mut Vec<u8, B>,
 ) -> Result<(), AllocError>
-    requires stands { MayStand trie.now.hash_bits trie.now.real_bits trie.now.cutoff trie.now.leaves }
+    requires stands { MayBeTrie trie.now.hash_bits trie.now.real_bits trie.now.cutoff trie.now.leaves }
     requires way { IsWayTo trie.now.leaves n slot way.now }
     ensures added { OnOk result (IfSome (slice_get trie.now.leaves n) (λ l. out.new.items ≡ out.old.items ++ begins trie.now.real_bits l)) }
     ensures unchanged { OnErr result (out.new.items ≡ out.old.items) }

@@ -2,7 +2,7 @@
 //! searched for.
 ghost use Rattle.std.specs.Prelude.{◌≡◌, ◌<◌, IfSome, length};
 ghost use Rattle.std.specs.List.{All};
-ghost use Rattle.filter_api.specs.Spellings.{MayStand};
+ghost use Rattle.filter_api.specs.Spellings.{MayBeTrie};
 ghost use Rattle.filter_iter.specs.Spots.{BeginsNode, HasSpot, IsFirstBranch, IsMark, IsSpotIfKnown};
 ghost use Rattle.filter_model.specs.Trie.{nodes};
 
@@ -18,7 +18,7 @@ pub(crate) fn leave<A: Allocator, B: Allocator>(
     pass: Pass,
     marks: &mut Marks<'_, B>,
 )
-    requires stands { MayStand trie.now.hash_bits trie.now.real_bits trie.now.cutoff trie.now.leaves }
+    requires stands { MayBeTrie trie.now.hash_bits trie.now.real_bits trie.now.cutoff trie.now.leaves }
     requires spot { HasSpot trie.now pass }
     requires node { pass.node < length (nodes trie.now.leaves) }
     requires marks { All (IsMark trie.now) marks.old.items }
@@ -58,7 +58,7 @@ fn take_mark<A: Allocator, B: Allocator>(
 
 // The spot of the first branch of a node that begins at a mark.
 fn marked_spot<A: Allocator>(trie: &Trie<A>, mark: Mark) -> Spot
-    requires stands { MayStand trie.now.hash_bits trie.now.real_bits trie.now.cutoff trie.now.leaves }
+    requires stands { MayBeTrie trie.now.hash_bits trie.now.real_bits trie.now.cutoff trie.now.leaves }
     requires node { mark.node < length (nodes trie.now.leaves) }
     requires mark { IsMark trie.now mark }
     ensures { BeginsNode trie.now mark.node result }
@@ -90,7 +90,7 @@ pub(crate) fn first_marked<A: Allocator, B: Allocator>(
     node: u64,
     marks: &mut Marks<'_, B>,
 ) -> (Branch, Option<Spot>)
-    requires stands { MayStand trie.now.hash_bits trie.now.real_bits trie.now.cutoff trie.now.leaves }
+    requires stands { MayBeTrie trie.now.hash_bits trie.now.real_bits trie.now.cutoff trie.now.leaves }
     requires node { node < length (nodes trie.now.leaves) }
     requires marks { All (IsMark trie.now) marks.old.items }
     ensures branch { IsFirstBranch trie.now.leaves node result.0 }

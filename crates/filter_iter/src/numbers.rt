@@ -1,7 +1,7 @@
 //! The leaf of a number.
 ghost use Rattle.std.specs.Prelude.{◌≡◌, ◌+◌, ◌++◌, ◌∷◌, [], ◌<◌, ◌≤◌, get_or, length};
 ghost use Rattle.std.specs.List.{All};
-ghost use Rattle.filter_api.specs.Spellings.{MayStand};
+ghost use Rattle.filter_api.specs.Spellings.{MayBeTrie};
 ghost use Rattle.filter_iter.specs.Numbers.{IsLastByte, IsLeafBelow, IsStepTo, StandsAtNode};
 ghost use Rattle.filter_iter.specs.Spots.{HasSpot};
 ghost use Rattle.filter_iter.specs.Ways.{IsWayTo};
@@ -100,7 +100,7 @@ pub(crate) fn find<A: Allocator, B: Allocator>(trie: &Trie<A>, n: u32, way: &mut
     requires number { n < length trie.now.leaves }
     requires empty { way.old.items ≡ [] }
     requires room { height_of trie.now.leaves ≤ way.old.capacity }
-    ensures stands { MayStand trie.now.hash_bits trie.now.real_bits trie.now.cutoff trie.now.leaves }
+    ensures stands { MayBeTrie trie.now.hash_bits trie.now.real_bits trie.now.cutoff trie.now.leaves }
     ensures way { IsWayTo trie.now.leaves n result way.new.items }
     ensures spots { All (HasSpot trie.now) way.new.items }
     ensures capacity { way.new.capacity ≡ way.old.capacity }

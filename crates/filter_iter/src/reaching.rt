@@ -1,7 +1,7 @@
 //! Where a bound leads in a trie, and how many leaves come before it.
 
 ghost use Rattle.std.specs.Prelude.{◌≡◌, ◌<◌, ◌≤◌, ◌+◌, ◌++◌, ◌∷◌, [], cond, false, true, length, get_or, take};
-ghost use Rattle.filter_api.specs.Spellings.{MayStand};
+ghost use Rattle.filter_api.specs.Spellings.{MayBeTrie};
 ghost use Rattle.filter_iter.specs.Borders.{HasLeft, HaveMet, IsBorder, IsDescent, IsStepBy, IsTurn, IsTurnAt, LeadsOn, leaves_at};
 ghost use Rattle.filter_iter.specs.declared.parts.Turn.TheVariants as turn;
 ghost use Rattle.filter_model.specs.Trie.{END, height as height_of, nodes};
@@ -34,7 +34,7 @@ fn turn_at<A: Allocator>(trie: &Trie<A>, place: Place, byte: u8, slots: u64) -> 
 /// In the sparse half the byte's own branch is found as a walk finds it, and the one behind is searched for where there is
 /// none, which ends the bound's way.
 pub(crate) fn turn<A: Allocator>(trie: &Trie<A>, border: Border, byte: u8) -> (Border, Turn)
-    requires stands { MayStand trie.now.hash_bits trie.now.real_bits trie.now.cutoff trie.now.leaves }
+    requires stands { MayBeTrie trie.now.hash_bits trie.now.real_bits trie.now.cutoff trie.now.leaves }
     requires node { border.node < length (nodes trie.now.leaves) }
     requires border { IsBorder trie.now.leaves (length (get_or (nodes trie.now.leaves) border.node [])) border }
     requires before { leaves_at trie.now.leaves (length (get_or (nodes trie.now.leaves) border.node [])) border ≡ first_leaf trie.now.leaves (get_or (nodes trie.now.leaves) border.node []) }
@@ -66,7 +66,7 @@ fn own_turn(leads: bool, slots: u64) -> Turn
 
 /// The same by the node's first branch from the byte on, whether or not it is the byte's own.
 pub(crate) fn turn_beside<A: Allocator>(trie: &Trie<A>, border: Border, byte: u8) -> (Border, Turn)
-    requires stands { MayStand trie.now.hash_bits trie.now.real_bits trie.now.cutoff trie.now.leaves }
+    requires stands { MayBeTrie trie.now.hash_bits trie.now.real_bits trie.now.cutoff trie.now.leaves }
     requires node { border.node < length (nodes trie.now.leaves) }
     requires border { IsBorder trie.now.leaves (length (get_or (nodes trie.now.leaves) border.node [])) border }
     requires before { leaves_at trie.now.leaves (length (get_or (nodes trie.now.leaves) border.node [])) border ≡ first_leaf trie.now.leaves (get_or (nodes trie.now.leaves) border.node []) }
@@ -119,7 +119,7 @@ fn left(border: Border, leaf: Option<Reached>) -> Descent
 
 // One level down by the bound's byte there.
 fn step_by<A: Allocator>(trie: &Trie<A>, bound: &[u8], level: usize, border: Border) -> Descent
-    requires stands { MayStand trie.now.hash_bits trie.now.real_bits trie.now.cutoff trie.now.leaves }
+    requires stands { MayBeTrie trie.now.hash_bits trie.now.real_bits trie.now.cutoff trie.now.leaves }
     requires border { IsBorder trie.now.leaves level border }
     requires leads { LeadsOn trie.now.leaves bound.now level border }
     requires more { level < length bound.now }
@@ -147,7 +147,7 @@ fn step_by<A: Allocator>(trie: &Trie<A>, bound: &[u8], level: usize, border: Bor
 
 // One level down where the bound ends.
 fn step_behind<A: Allocator>(trie: &Trie<A>, bound: &[u8], level: usize, border: Border) -> Descent
-    requires stands { MayStand trie.now.hash_bits trie.now.real_bits trie.now.cutoff trie.now.leaves }
+    requires stands { MayBeTrie trie.now.hash_bits trie.now.real_bits trie.now.cutoff trie.now.leaves }
     requires border { IsBorder trie.now.leaves level border }
     requires leads { LeadsOn trie.now.leaves bound.now level border }
     requires end { level ≡ length bound.now }
@@ -175,7 +175,7 @@ pub(crate) fn step_on<A: Allocator>(
     level: usize,
     border: Border,
 ) -> Descent
-    requires stands { MayStand trie.now.hash_bits trie.now.real_bits trie.now.cutoff trie.now.leaves }
+    requires stands { MayBeTrie trie.now.hash_bits trie.now.real_bits trie.now.cutoff trie.now.leaves }
     requires border { IsBorder trie.now.leaves level border }
     requires leads { LeadsOn trie.now.leaves bound.now level border }
     ensures descent { IsDescent trie.now.leaves bound.now (level + 1) result }
@@ -190,7 +190,7 @@ pub(crate) fn step_on<A: Allocator>(
 
 // One level down.
 fn step<A: Allocator>(trie: &Trie<A>, bound: &[u8], level: usize, descent: Descent) -> Descent
-    requires stands { MayStand trie.now.hash_bits trie.now.real_bits trie.now.cutoff trie.now.leaves }
+    requires stands { MayBeTrie trie.now.hash_bits trie.now.real_bits trie.now.cutoff trie.now.leaves }
     requires level { level < height_of trie.now.leaves }
     requires descent { IsDescent trie.now.leaves bound.now level descent }
     ensures { IsDescent trie.now.leaves bound.now (level + 1) result }
@@ -203,7 +203,7 @@ fn step<A: Allocator>(trie: &Trie<A>, bound: &[u8], level: usize, descent: Desce
 
 /// Goes down by a bound to where it has left the trie, and gives the level there.
 pub(crate) fn follow<A: Allocator>(trie: &Trie<A>, bound: &[u8]) -> (Descent, usize)
-    ensures stands { MayStand trie.now.hash_bits trie.now.real_bits trie.now.cutoff trie.now.leaves }
+    ensures stands { MayBeTrie trie.now.hash_bits trie.now.real_bits trie.now.cutoff trie.now.leaves }
     ensures border { IsBorder trie.now.leaves result.1 result.0.border }
     ensures left { HasLeft trie.now.leaves bound.now result.1 result.0 }
 {
@@ -221,7 +221,7 @@ pub(crate) fn follow<A: Allocator>(trie: &Trie<A>, bound: &[u8]) -> (Descent, us
 /// Goes down by two bounds together, to where they have left the trie at one node. From there on as many leaves stand before
 /// the one as before the other, on each level.
 pub(crate) fn meet<A: Allocator>(trie: &Trie<A>, lo: &[u8], hi: &[u8]) -> (Descent, Descent)
-    ensures stands { MayStand trie.now.hash_bits trie.now.real_bits trie.now.cutoff trie.now.leaves }
+    ensures stands { MayBeTrie trie.now.hash_bits trie.now.real_bits trie.now.cutoff trie.now.leaves }
     ensures met { HaveMet trie.now.leaves lo.now hi.now result.0 result.1 }
 {
     let height = usize::from(trie.height());

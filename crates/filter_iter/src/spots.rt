@@ -2,7 +2,7 @@
 //! and where it leads follows from where the one before leads, so that nothing is counted.
 ghost use Rattle.std.specs.Prelude.{◌≡◌, ◌+◌, ◌++◌, ◌∷◌, [], ◌<◌, ◌≤◌, ◌==◌, ◌&&◌, not, cond, IfSome, get_or, length};
 ghost use Rattle.std.specs.Option.{option_map};
-ghost use Rattle.filter_api.specs.Spellings.{MayStand};
+ghost use Rattle.filter_api.specs.Spellings.{MayBeTrie};
 ghost use Rattle.filter_iter.specs.Spots.{BeginsNode, HasSpot, IsFirstBranch, IsSpotOf, IsSpotIfKnown, IsTakenSpot, below_place};
 ghost use Rattle.filter_iter.specs.Ways.{IsLeadAt, IsNextAt, leaves_to};
 ghost use Rattle.filter_model.specs.Trie.{END, nodes};
@@ -18,7 +18,7 @@ const END_LABEL: u8 = 255;
 
 /// The spot of a node's first branch, `None` where the node is in the dense half.
 pub(crate) fn node_spot<A: Allocator>(trie: &Trie<A>, node: u64) -> Option<Spot>
-    requires stands { MayStand trie.now.hash_bits trie.now.real_bits trie.now.cutoff trie.now.leaves }
+    requires stands { MayBeTrie trie.now.hash_bits trie.now.real_bits trie.now.cutoff trie.now.leaves }
     requires node { node < length (nodes trie.now.leaves) }
     ensures { IfSome result (BeginsNode trie.now node) }
 {
@@ -32,7 +32,7 @@ pub(crate) fn node_spot<A: Allocator>(trie: &Trie<A>, node: u64) -> Option<Spot>
 
 /// The spot of a pass's branch: the pass has it, or it is searched for. `None` in the dense half, and of END.
 pub(crate) fn spot_of<A: Allocator>(trie: &Trie<A>, pass: Pass) -> Option<Spot>
-    requires stands { MayStand trie.now.hash_bits trie.now.real_bits trie.now.cutoff trie.now.leaves }
+    requires stands { MayBeTrie trie.now.hash_bits trie.now.real_bits trie.now.cutoff trie.now.leaves }
     requires node { pass.node < length (nodes trie.now.leaves) }
     requires letter { pass.letter ≤ END }
     requires spot { HasSpot trie.now pass }
@@ -46,7 +46,7 @@ pub(crate) fn spot_of<A: Allocator>(trie: &Trie<A>, pass: Pass) -> Option<Spot>
 
 // The spot of a node's branch by a byte.
 fn search<A: Allocator>(trie: &Trie<A>, node: u64, byte: u8) -> Option<Spot>
-    requires stands { MayStand trie.now.hash_bits trie.now.real_bits trie.now.cutoff trie.now.leaves }
+    requires stands { MayBeTrie trie.now.hash_bits trie.now.real_bits trie.now.cutoff trie.now.leaves }
     requires node { node < length (nodes trie.now.leaves) }
     ensures { IsSpotIfKnown trie.now node byte result }
 {
@@ -63,7 +63,7 @@ fn search<A: Allocator>(trie: &Trie<A>, node: u64, byte: u8) -> Option<Spot>
 // Where the branch at a spot leads. What stands before it are nodes' branches and leaves, so that the count of the nodes says
 // how many leaves there are.
 fn lead_at_spot<A: Allocator>(trie: &Trie<A>, spot: Spot) -> Lead
-    requires stands { MayStand trie.now.hash_bits trie.now.real_bits trie.now.cutoff trie.now.leaves }
+    requires stands { MayBeTrie trie.now.hash_bits trie.now.real_bits trie.now.cutoff trie.now.leaves }
     requires spot { IsTakenSpot trie.now spot }
     ensures { IsLeadAt (trie_in trie.now) (branch_number trie.now (in_half.Sparse spot.place)) result }
 {
@@ -77,7 +77,7 @@ fn lead_at_spot<A: Allocator>(trie: &Trie<A>, spot: Spot) -> Lead
 
 /// One place further. Behind the last branch of a node the next node begins.
 pub(crate) fn spot_behind<A: Allocator>(trie: &Trie<A>, spot: Spot) -> Spot
-    requires stands { MayStand trie.now.hash_bits trie.now.real_bits trie.now.cutoff trie.now.leaves }
+    requires stands { MayBeTrie trie.now.hash_bits trie.now.real_bits trie.now.cutoff trie.now.leaves }
     requires spot { IsTakenSpot trie.now spot }
     ensures place { result.place ≡ spot.place + 1 }
     ensures end { result.end ≡ spot.end }
@@ -97,7 +97,7 @@ pub(crate) fn branch_behind_spot<A: Allocator>(
     pass: Pass,
     spot: Spot,
 ) -> Option<(Branch, Spot)>
-    requires stands { MayStand trie.now.hash_bits trie.now.real_bits trie.now.cutoff trie.now.leaves }
+    requires stands { MayBeTrie trie.now.hash_bits trie.now.real_bits trie.now.cutoff trie.now.leaves }
     requires node { pass.node < length (nodes trie.now.leaves) }
     requires spot { IsSpotOf trie.now pass.node pass.letter spot }
     ensures next { IsNextAt trie.now.leaves (get_or (nodes trie.now.leaves) pass.node []) (leaves_to trie.now.leaves (get_or (nodes trie.now.leaves) pass.node [] ++ pass.letter ∷ [])) (option_map (λ found. found.0) result) }
@@ -116,7 +116,7 @@ pub(crate) fn branch_behind_spot<A: Allocator>(
 
 /// The first branch of a node, which stands at the node's spot.
 pub(crate) fn branch_at_spot<A: Allocator>(trie: &Trie<A>, node: u64, spot: Spot) -> Branch
-    requires stands { MayStand trie.now.hash_bits trie.now.real_bits trie.now.cutoff trie.now.leaves }
+    requires stands { MayBeTrie trie.now.hash_bits trie.now.real_bits trie.now.cutoff trie.now.leaves }
     requires node { node < length (nodes trie.now.leaves) }
     requires spot { BeginsNode trie.now node spot }
     ensures branch { IsFirstBranch trie.now.leaves node result }

@@ -1,7 +1,7 @@
 //! From a way to the way of the next leaf, or of the one before.
 ghost use Rattle.std.specs.Prelude.{◌≡◌, ◌<◌, ◌≤◌, length};
 ghost use Rattle.std.specs.List.{All};
-ghost use Rattle.filter_api.specs.Spellings.{MayStand};
+ghost use Rattle.filter_api.specs.Spellings.{MayBeTrie};
 ghost use Rattle.filter_iter.specs.Spots.{HasSpot, IsMark};
 ghost use Rattle.filter_iter.specs.Ways.{IsWay, LeadGoesTo, letters_of, leaves_to};
 ghost use Rattle.filter_model.specs.Trie.{height};
@@ -21,7 +21,7 @@ pub(crate) fn turn_behind<A: Allocator, B: Allocator>(
     way: &mut Way<'_, B>,
     marks: &mut Marks<'_, B>,
 ) -> Lead
-    requires stands { MayStand trie.now.hash_bits trie.now.real_bits trie.now.cutoff trie.now.leaves }
+    requires stands { MayBeTrie trie.now.hash_bits trie.now.real_bits trie.now.cutoff trie.now.leaves }
     requires way { IsWay trie.now.leaves way.old.items }
     requires spots { All (HasSpot trie.now) way.old.items }
     requires marks { All (IsMark trie.now) marks.old.items }
@@ -50,7 +50,7 @@ pub(crate) fn turn_behind<A: Allocator, B: Allocator>(
 
 /// Goes up to the last node on a way that has a branch before it, and turns to that branch.
 pub(crate) fn turn_before<A: Allocator, B: Allocator>(trie: &Trie<A>, way: &mut Way<'_, B>) -> Lead
-    requires stands { MayStand trie.now.hash_bits trie.now.real_bits trie.now.cutoff trie.now.leaves }
+    requires stands { MayBeTrie trie.now.hash_bits trie.now.real_bits trie.now.cutoff trie.now.leaves }
     requires way { IsWay trie.now.leaves way.old.items }
     requires spots { All (HasSpot trie.now) way.old.items }
     requires more { 0 < first_leaf trie.now.leaves (letters_of way.old.items) }
@@ -81,7 +81,7 @@ pub(crate) fn go_first<A: Allocator, B: Allocator>(
     way: &mut Way<'_, B>,
     marks: &mut Marks<'_, B>,
 ) -> u64
-    requires stands { MayStand trie.now.hash_bits trie.now.real_bits trie.now.cutoff trie.now.leaves }
+    requires stands { MayBeTrie trie.now.hash_bits trie.now.real_bits trie.now.cutoff trie.now.leaves }
     requires way { IsWay trie.now.leaves way.old.items }
     requires spots { All (HasSpot trie.now) way.old.items }
     requires leads { LeadGoesTo trie.now.leaves (letters_of way.old.items) lead }
@@ -117,7 +117,7 @@ pub(crate) fn go_last<A: Allocator, B: Allocator>(
     lead: Lead,
     way: &mut Way<'_, B>,
 ) -> u64
-    requires stands { MayStand trie.now.hash_bits trie.now.real_bits trie.now.cutoff trie.now.leaves }
+    requires stands { MayBeTrie trie.now.hash_bits trie.now.real_bits trie.now.cutoff trie.now.leaves }
     requires way { IsWay trie.now.leaves way.old.items }
     requires spots { All (HasSpot trie.now) way.old.items }
     requires leads { LeadGoesTo trie.now.leaves (letters_of way.old.items) lead }

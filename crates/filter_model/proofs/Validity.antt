@@ -7,8 +7,9 @@ use Rattle.std.proofs.lemmas.List.Elements.{All-map, All-contains, Contains-get_
 use Rattle.filter_model.specs.Strings.{is_before, extends, bytes_eq, shared}
 use Rattle.filter_model.specs.Keys.{IsKey, IsKeyList}
 use Rattle.filter_model.specs.Leaves.{Leaf, shared_most, stub_of, ends_of, leaf_of, leaves_of}
-use Rattle.filter_model.specs.Valid.{IsLeaf, EndsRightly, IsCrowded}
-use Rattle.filter_model.specs.Laws.{LeavesAreValid, NodesBranch}
+use Rattle.filter_model.specs.Valid.{IsLeaf, IsLeafList, EndsRightly, IsCrowded}
+use Rattle.key_base.specs.Limits.{max_real_bits}
+use Rattle.filter_model.specs.Laws.{LeavesAreValid, NodesBranch, ValidListsAreLeafLists}
 use Rattle.filter_model.specs.Trie.{branches, parent}
 use Rattle.filter_model.proofs.Order.{Lt-from, Lt-to}
 use Rattle.filter_model.proofs.Fronts.{same-itself}
@@ -100,3 +101,10 @@ pub nodes_branch : NodesBranch
 nodes_branch hash_bits n keys h more =
     All-map (λ (l : Leaf). 2 ≤ length (branches (leaves_of hash_bits n keys) (parent l))) (leaf_of hash_bits n keys) keys
     (λ i d l. let other = other_key keys h more i d l in two_at_node hash_bits n keys (get_or keys i d) other.0 (key_of keys h) (Contains-get_or keys i d l) other.1 other.2)
+
+pub valid_lists_are_leaf_lists : ValidListsAreLeafLists
+valid_lists_are_leaf_lists h r ls v = record { some = v.some; few = v.few; leaves = v.leaves; rising = v.rising; ends = v.ends }
+
+-- the leaves of a list of keys are a leaf list
+pub leaves_are_listed : (hash_bits n : ℕ) (keys : List (List ℕ)) → n ≤ max_real_bits → IsKeyList keys → IsLeafList hash_bits n (leaves_of hash_bits n keys)
+leaves_are_listed hash_bits n keys nh h = valid_lists_are_leaf_lists hash_bits n (leaves_of hash_bits n keys) (leaves_are_valid hash_bits n keys nh h)

@@ -8,12 +8,16 @@ use Rattle.filter_model.specs.Keys.{IsKeyList}
 use Rattle.filter_model.specs.Leaves.{Leaf, leaf_of, leaves_of}
 use Rattle.filter_model.specs.Answers.{begins, first, first_difference, fits, is_past, point, ranged, tally, is_within, keys_below, true_count}
 use Rattle.filter_model.specs.Trie.{branches, nodes, parent}
-use Rattle.filter_model.specs.Valid.{IsLeaf, IsValid}
+use Rattle.filter_model.specs.Valid.{IsLeaf, IsLeafList, IsValid}
 
 -- the leaves of every list of keys are valid
 abbrev pub LeavesAreValid : Type 0
 LeavesAreValid =
     (hash_bits real_bits : ℕ) (keys : List (List ℕ)) → real_bits ≤ max_real_bits → IsKeyList keys → IsValid hash_bits real_bits (leaves_of hash_bits real_bits keys)
+
+-- what a filter may stand for is a leaf list; the other way round it need not be
+abbrev pub ValidListsAreLeafLists : Type 0
+ValidListsAreLeafLists = (hash_bits real_bits : ℕ) (ls : List Leaf) → IsValid hash_bits real_bits ls → IsLeafList hash_bits real_bits ls
 
 -- two bounds of a range
 pub record AreBounds (lo hi : List ℕ) : Type 0 where

@@ -1,4 +1,4 @@
--- The leaf lists that a filter may stand for, without mention of keys.
+-- The leaf lists of tries, and those that a filter may stand for, without mention of keys.
 use Rattle.std.specs.Prelude.{◌≡◌, ℕ, ◌<◌, ◌^◌, Bool, true, not, ◌&&◌, List, length}
 use Rattle.std.specs.List.{All, AllPairs, list_any}
 use Rattle.filter_model.specs.Strings.{is_before, extends, is_prefix, bytes_eq}
@@ -29,6 +29,15 @@ joins l o = is_prefix (parent l) o.stub && not (bytes_eq o.stub l.stub)
 abbrev pub IsCrowded : List Leaf → Leaf → Type 0
 IsCrowded ls l = list_any (joins l) ls ≡ true
 
+-- one leaf or more, fewer than 2^32, each by itself right; stubs rise, and one is a proper prefix of another exactly where it ends
+pub record IsLeafList (hash_bits real_bits : ℕ) (ls : List Leaf) : Type 0 where
+  pub some : 0 < length ls
+  pub few : length ls < 2 ^ 32
+  pub leaves : All (IsLeaf hash_bits real_bits) ls
+  pub rising : AllPairs (λ a b. is_before a.stub b.stub ≡ true) ls
+  pub ends : All (EndsRightly ls) ls
+
+-- such a list whose stubs are no longer than needed: of one leaf the stub has one byte, of more each is a branch beside others
 pub record IsValid (hash_bits real_bits : ℕ) (ls : List Leaf) : Type 0 where
   pub some : 0 < length ls
   pub few : length ls < 2 ^ 32

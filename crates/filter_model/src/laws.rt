@@ -1,5 +1,5 @@
 //! Laws of the definitions. They are proved and never called.
-ghost use Rattle.filter_model.specs.Laws.{FirstDifferenceIsExact, LeastStringsFit, LeavesAreValid, NodesAreThePrefixes, NodesBranch, NodesStandInOrder, NoHeldRangeIsDenied, NoKeyBeforeLeast, NoKeyIsDenied, NothingBeforeFirst, PastIsBelow, RangedByFirst, RangeIsExact, SeeksAreNear, TallyIsNear, ValidListsComeOfKeys};
+ghost use Rattle.filter_model.specs.Laws.{FirstDifferenceIsExact, LeastStringsFit, LeavesAreValid, NodesAreThePrefixes, NodesBranch, NodesStandInOrder, NoHeldRangeIsDenied, NoKeyBeforeLeast, NoKeyIsDenied, NothingBeforeFirst, PastIsBelow, RangedByFirst, RangeIsExact, SeeksAreNear, TallyIsNear, ValidListsAreLeafLists, ValidListsComeOfKeys};
 
 /// A range answers yes exactly where some byte string in it fits a leaf, hash bits apart.
 pub fn range_is_exact()
@@ -41,6 +41,11 @@ pub fn past_is_below()
 pub fn leaves_are_valid()
     ensures valid { LeavesAreValid }
     ensures branches { NodesBranch }
+{}
+
+/// A valid leaf list is a leaf list: what a trie has is known of it.
+pub fn valid_lists_are_leaf_lists()
+    ensures { ValidListsAreLeafLists }
 {}
 
 /// The nodes are the prefixes that some stub properly extends or some leaf ends with, by length and then in byte order.

@@ -26,5 +26,5 @@ pub use keys::are_keys;
 pub use laws::{
     first_difference_is_exact, least_strings_fit, leaves_are_valid, nodes_are_the_prefixes,
     nothing_held_is_denied, past_is_below, range_is_exact, seeks_are_near, tally_is_near,
-    valid_lists_come_of_keys,
+    valid_lists_are_leaf_lists, valid_lists_come_of_keys,
 };

@@ -2,7 +2,7 @@
 
 use super::codec::{fault_of, image_of};
 use super::images::set_byte;
-use super::judge::judge;
+use super::judge::{Kind, judge};
 use super::keys::{drawn_list, step};
 use super::tries::drawn_trie;
 use filter_trie::Trie;
@@ -32,7 +32,7 @@ fn dense_levels(seed: u64) -> u16 {
 // What is read of bytes, or why they are refused, is as the judge says.
 fn check_bytes(rt: &impl Abort, alloc: Global, bytes: &[u8]) -> Result<(), AllocError> {
     let found = fault_of(rt, alloc, bytes)?;
-    let wanted = judge(alloc, bytes)?;
+    let wanted = judge(alloc, bytes, Kind::Filters)?;
     assert!(rt; found == wanted);
     Ok(())
 }

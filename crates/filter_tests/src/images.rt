@@ -79,7 +79,12 @@ pub(crate) fn set_byte(bytes: &mut [u8], at: usize, value: u8) {
     }
 }
 
-fn changed(alloc: Global, image: &[u8], changes: &[(usize, u8)]) -> Result<Vec<u8>, AllocError> {
+/// An image with other bytes at some places.
+pub(crate) fn changed(
+    alloc: Global,
+    image: &[u8],
+    changes: &[(usize, u8)],
+) -> Result<Vec<u8>, AllocError> {
     let mut bytes = Vec::from_slice(alloc, image)?;
     for (at, value) in changes {
         set_byte(bytes.as_mut_slice(), *at, *value);

@@ -31,23 +31,40 @@ pub(crate) struct Section {
     pub(crate) bits: u64,
 }
 
-/// The first rule that bytes break, and the place where they do, or `None` where they are an image.
-pub(crate) fn judge(alloc: Global, bytes: &[u8]) -> Result<Option<FilterFault>, AllocError> {
+/// Whose images are judged.
+#[derive(Clone, Copy, PartialEq, Eq)]
+pub(crate) enum Kind {
+    Filters,
+    WholeKeys,
+}
+
+/// The first rule of a kind that bytes break, and the place where they do, or `None` where they are an image.
+pub(crate) fn judge(
+    alloc: Global,
+    bytes: &[u8],
+    kind: Kind,
+) -> Result<Option<FilterFault>, AllocError> {
     let numbers = numbers_of(bytes);
     let sections = sections_of(&numbers);
-    let outer = outer_fault(bytes, &numbers, sections);
+    let outer = outer_fault(bytes, &numbers, sections, kind);
     if outer.is_some() {
         return Ok(outer);
     }
     let knots = knots_of(alloc, bytes, &numbers, sections)?;
     let opens = is_set(bytes, sections[5].place, 0) || numbers.labels == 0;
     let place = sections[6].place;
-    Ok(inner_fault(bytes, &numbers, place, knots.as_slice(), opens))
+    let knots = knots.as_slice();
+    Ok(inner_fault(bytes, &numbers, place, knots, opens, kind))
 }
 
 // Rules 1 to 7.
-fn outer_fault(bytes: &[u8], numbers: &Numbers, sections: [Section; 8]) -> Option<FilterFault> {
-    let early = header_fault(bytes)
+fn outer_fault(
+    bytes: &[u8],
+    numbers: &Numbers,
+    sections: [Section; 8],
+    kind: Kind,
+) -> Option<FilterFault> {
+    let early = header_fault(bytes, kind)
         .or(numbers_fault(numbers))
         .or(length_fault(bytes.len() as u64, sections[7].place));
     if early.is_some() {
@@ -63,9 +80,10 @@ fn inner_fault(
     place: u64,
     knots: &[Knot],
     opens: bool,
+    kind: Kind,
 ) -> Option<FilterFault> {
     counts_fault(numbers, knots, opens)
-        .or(shape_fault(numbers, knots))
+        .or(shape_fault(numbers, knots, kind))
         .or(ends_fault(bytes, numbers, place, knots))
 }
 
@@ -76,11 +94,11 @@ pub(crate) fn fault(place: u64, rule: u8) -> Option<FilterFault> {
 
 // ---- 1 to 4, on the header
 
-fn header_fault(bytes: &[u8]) -> Option<FilterFault> {
+fn header_fault(bytes: &[u8], kind: Kind) -> Option<FilterFault> {
     if (bytes.len() as u64) < HEADER_BYTES {
         return fault(bytes.len() as u64, 1);
     }
-    magic_fault(bytes).or(widths_fault(bytes))
+    magic_fault(bytes).or(widths_fault(bytes, kind))
 }
 
 fn magic_fault(bytes: &[u8]) -> Option<FilterFault> {
@@ -93,11 +111,15 @@ fn magic_fault(bytes: &[u8]) -> Option<FilterFault> {
 }
 
 // The widths of the suffixes, and a byte that is not used.
-fn widths_fault(bytes: &[u8]) -> Option<FilterFault> {
-    if byte_at(bytes, 5) > 32 {
+fn widths_fault(bytes: &[u8], kind: Kind) -> Option<FilterFault> {
+    let most = match kind {
+        Kind::Filters => 32,
+        Kind::WholeKeys => 0,
+    };
+    if byte_at(bytes, 5) > most {
         return fault(5, 3);
     }
-    if byte_at(bytes, 6) > 32 {
+    if byte_at(bytes, 6) > most {
         return fault(6, 3);
     }
     if byte_at(bytes, 7) > 0 {

@@ -1,7 +1,7 @@
 //! The nodes that an image spells, as plain lists of branches, and rules 8 to 10 on them.
 
 use super::bits::{byte_at, is_set};
-use super::judge::{Numbers, Section, fault};
+use super::judge::{Kind, Numbers, Section, fault};
 use filter_api::FilterFault;
 use std::alloc::{AllocError, Global};
 
@@ -164,24 +164,26 @@ fn are_levels(numbers: &Numbers, knots: &[Knot]) -> bool {
 // ---- 9: the nodes
 
 /// Rule 9.
-pub(crate) fn shape_fault(numbers: &Numbers, knots: &[Knot]) -> Option<FilterFault> {
+pub(crate) fn shape_fault(numbers: &Numbers, knots: &[Knot], kind: Kind) -> Option<FilterFault> {
+    let filters = kind == Kind::Filters;
     if let Some(root) = knots.first() {
-        if has_end(root) || numbers.height > 1 && numbers.leaves == 1 {
+        if has_end(root) || filters && numbers.height > 1 && numbers.leaves == 1 {
             return fault(root.place, 9);
         }
     }
     for knot in knots {
-        if is_wrong(numbers, knot) {
+        if is_wrong(knot, filters && numbers.leaves > 1) {
             return fault(knot.place, 9);
         }
     }
     None
 }
 
-fn is_wrong(numbers: &Numbers, knot: &Knot) -> bool {
+// Where a node may be one leaf alone, or may not.
+fn is_wrong(knot: &Knot, together: bool) -> bool {
     match knot.edges.as_slice() {
         [] => true,
-        [edge] => edge.letter == END || !edge.child && numbers.leaves > 1,
+        [edge] => edge.letter == END || !edge.child && together,
         [first, ..] => first.letter == END && first.child || !is_rising(knot),
     }
 }

@@ -68,3 +68,5 @@ mod sums;
 mod tries;
 #[cfg(test)]
 mod walks;
+#[cfg(test)]
+mod whole_images;

@@ -6,7 +6,7 @@ use Rattle.std.proofs.lemmas.List.{length-append, length-map, take-append-drop}
 use Rattle.std.proofs.lemmas.List.Concat.{flat_map-append}
 use Rattle.bit_model.specs.Packed.{packed}
 use Rattle.bit_words.proofs.Packing.{length-packed}
-use Rattle.filter_api.specs.Spellings.{MayStand}
+use Rattle.filter_api.specs.Spellings.{MayBeTrie}
 use Rattle.filter_image_model.proofs.Again.{length-louds, length-rows}
 use Rattle.filter_image_model.proofs.ImageWritten.{same_image}
 use Rattle.filter_image_model.proofs.Paths.{fine_paths, trie_flat}
@@ -30,7 +30,7 @@ pub record HasSections (i : Filter) : Type 0 where
   pub few_labels : length (all (lower i.cutoff i.leaves)) ≤ 2 ^ 42
   pub few_suffixes : length i.leaves * (i.hash_bits + i.real_bits) ≤ 2 ^ 38
 
-pub has_sections : (i : Filter) → MayStand i.hash_bits i.real_bits i.cutoff i.leaves → HasSections i
+pub has_sections : (i : Filter) → MayBeTrie i.hash_bits i.real_bits i.cutoff i.leaves → HasSections i
 has_sections i m =
     let h = i.hash_bits in
     let r = i.real_bits in

@@ -11,7 +11,7 @@ use Rattle.filter_image_model.proofs.Sorted.{HeadsIn, sorted_tails}
 use Rattle.filter_model.specs.Leaves.{Leaf}
 use Rattle.filter_model.specs.Nodes.{first_place, trie_of}
 use Rattle.filter_model.specs.Trie.{branches, height, nodes, path, places, slots}
-use Rattle.filter_model.specs.Valid.{IsValid}
+use Rattle.filter_model.specs.Valid.{IsLeafList}
 use Rattle.filter_trie.proofs.Down.{node_passes}
 use Rattle.filter_trie.proofs.Least.{first_branch}
 use Rattle.filter_trie.proofs.Reached.{slot_is}
@@ -137,7 +137,7 @@ sorted_rests (c ∷ p) g s = sorted_rests p (tails c g) (sorted_tails c g s)
 
 -- ---- in the trie
 
-module _ (hash_bits real_bits : ℕ) (ls : List Leaf) (valid : IsValid hash_bits real_bits ls) where
+module _ (hash_bits real_bits : ℕ) (ls : List Leaf) (valid : IsLeafList hash_bits real_bits ls) where
   has : HasTrie ls
   has = valid_lists_have_tries hash_bits real_bits ls valid
 

@@ -24,7 +24,7 @@ use Rattle.trie_laws.proofs.Places.{at-trie_of, child-trie_of, child_within, fir
 use Rattle.trie_laws.proofs.Slots.{leaves_have_slots}
 use Rattle.trie_levels.specs.Tries.{HasTrie}
 use Rattle.std.specs.Prelude.{◌&&◌}
-use Rattle.filter_api.specs.Spellings.{MayStand}
+use Rattle.filter_api.specs.Spellings.{MayBeTrie}
 use Rattle.filter_image_model.proofs.Sizes.{some_height}
 use Rattle.louds_dense.proofs.Ranks.{node_within}
 use Rattle.trie_levels.proofs.Totals.{valid_lists_have_tries}
@@ -120,7 +120,7 @@ module _ (ls : List Leaf) (t : HasTrie ls) (some : 0 < height ls) (fine : IsFine
 
 -- ---- the same of a list for which a filter may stand
 
-module _ {h r c : ℕ} {ls : List Leaf} (m : MayStand h r c ls) where
+module _ {h r c : ℕ} {ls : List Leaf} (m : MayBeTrie h r c ls) where
   may_have : HasTrie ls
   may_have = valid_lists_have_tries h r ls m.valid
 

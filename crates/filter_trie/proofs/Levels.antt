@@ -9,7 +9,7 @@ use Rattle.filter_model.specs.Keys.{IsKeyList}
 use Rattle.filter_model.specs.Leaves.{Leaf, base_leaves}
 use Rattle.filter_model.specs.Nodes.{Branch, Node, node_of, trie_of}
 use Rattle.filter_model.specs.Trie.{END, height, level, nodes, nodes_to, path}
-use Rattle.filter_model.proofs.Validity.{leaves_are_valid}
+use Rattle.filter_model.proofs.Validity.{leaves_are_listed}
 use Rattle.filter_trie.specs.Building.{nodes_behind}
 use Rattle.trie_laws.specs.Nodes.{IsTrieNode}
 use Rattle.trie_laws.proofs.Forms.{order-byte, trie_nodes_have_form}
@@ -22,7 +22,7 @@ use Rattle.trie_model.specs.declared.parts.Before.{Before}
 use Rattle.trie_model.specs.declared.parts.Branch.{Branch as GivenBranch}
 
 pub keys_have_trie : (keys : List (List ℕ)) → IsKeyList keys → HasTrie (base_leaves keys)
-keys_have_trie keys h = valid_lists_have_tries 0 0 (base_leaves keys) (leaves_are_valid 0 0 keys (omega arith) h)
+keys_have_trie keys h = valid_lists_have_tries 0 0 (base_leaves keys) (leaves_are_listed 0 0 keys (omega arith) h)
 
 -- ---- one level more
 

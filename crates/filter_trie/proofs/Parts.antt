@@ -1,10 +1,9 @@
--- The parts of a valid list's trie are read as that list.
+-- The parts of a leaf list's trie are read as that list.
 use Rattle.std.proofs.Common.{◌≡◌, ℕ, ◌+◌, ◌*◌, ◌<◌, Bool, List, ◌++◌, length, map, refl, ap, sym, ◌∙◌}
 use Rattle.std.specs.List.{AllByRecursion, range_with_len}
 use Rattle.std.proofs.lemmas.List.{take-append-drop}
 use Rattle.bit_model.specs.Numbers.{number_at}
-use Rattle.filter_api.specs.Spellings.{IsSpelling}
-use Rattle.filter_image_model.proofs.ImageRead.{read_again}
+use Rattle.filter_image_model.proofs.ImageRead.{trie_read_again}
 use Rattle.filter_image_model.proofs.OneImage.{read_as, room}
 use Rattle.filter_image_model.proofs.Sizes.{some_height}
 use Rattle.filter_image_model.specs.Header.{Bytes}
@@ -39,9 +38,8 @@ module _ {i : Filter} {cutoff levels : ℕ} {dense : List Node} {sparse : Half} 
   unfolding image_in
   read_back =
       let bytes = image i.hash_bits i.real_bits i.cutoff i.leaves in
-      let s : IsSpelling image i.hash_bits i.real_bits i.cutoff i.leaves bytes = record { may_stand = p.may_stand; bytes_are = refl } in
-      sym (read_so i.hash_bits i.real_bits i.cutoff (height i.leaves) (length i.leaves) (upper i.cutoff i.leaves) (lower i.cutoff i.leaves) (suffixes i.hash_bits i.real_bits i.leaves) bytes (read_as i.hash_bits i.real_bits i.cutoff i.leaves bytes s).1)
-      ∙ ap (λ (x : Filter). x.leaves) (read_again i bytes s).1
+      sym (read_so i.hash_bits i.real_bits i.cutoff (height i.leaves) (length i.leaves) (upper i.cutoff i.leaves) (lower i.cutoff i.leaves) (suffixes i.hash_bits i.real_bits i.leaves) bytes (read_as i.hash_bits i.real_bits i.cutoff i.leaves bytes p.may_stand refl).1)
+      ∙ ap (λ (x : Filter). x.leaves) (trie_read_again i bytes p.may_stand refl)
 
   leaves_are : leaves_by levels (dense ++ sparse.nodes) array ≡ i.leaves
   unfolding leaves_by leaves_from

@@ -9,7 +9,7 @@ use Rattle.filter_model.specs.Leaves.{Leaf, base_leaves, ends_of, hash_bits_of, 
 use Rattle.filter_model.specs.Strings.{bits}
 use Rattle.filter_model.specs.Trie.{END, height, path, slots}
 use Rattle.filter_model.proofs.Stubs.{shared_most-le, stub-ends}
-use Rattle.filter_model.proofs.Validity.{leaves_are_valid}
+use Rattle.filter_model.proofs.Validity.{leaves_are_listed}
 use Rattle.filter_trie.specs.Building.{spans_longer}
 use Rattle.filter_trie.proofs.Passing.{IsSpan}
 use Rattle.filter_trie.proofs.SameTries.{same_height, same_spans}
@@ -86,7 +86,7 @@ by_length-more ls n (suc k) =
 pub passed_fit : (h r : ℕ) (keys : List (List ℕ)) (n : ℕ) → IsKeyList keys → r ≤ 32 → n ≤ height (base_leaves keys) → length (by_length n (leaves_of h r keys)) ≤ length keys
 passed_fit h r keys n k small tall =
     let ls = leaves_of h r keys in
-    let t = valid_lists_have_tries h r ls (leaves_are_valid h r keys small k) in
+    let t = valid_lists_have_tries h r ls (leaves_are_listed h r keys small k) in
     let all = leaves_have_slots ls t in
     let top = height ls in
     omega (
@@ -140,7 +140,7 @@ pub suffix_fits : (h r : ℕ) (keys : List (List ℕ)) (n : ℕ) (s : Span) → 
 suffix_fits h r keys n s k small l =
     let within : s.leaf < length keys = omega (arith, l.within, length-map (base_leaves keys) path, length-map keys (leaf_of 0 0 keys)) in
     let d = leaf_of h r keys [] in
-    let leaf = (leaves_are_valid h r keys small k).leaves s.leaf d (omega (arith, within, length-map keys (leaf_of h r keys))) in
+    let leaf = (leaves_are_listed h r keys small k).leaves s.leaf d (omega (arith, within, length-map keys (leaf_of h r keys))) in
     let is = get_or-map (leaf_of h r keys) keys s.leaf [] d within in
     subst (λ (l : Leaf). IsOfWidths h r (leaf_suffix l)) is (leaf.hash_fits, leaf.real_fits)
 

@@ -1,7 +1,7 @@
 -- Laws of places: every image has parts, and what holds of them.
 use Rattle.std.proofs.Common.{map, refl, ◌∙◌, arith}
 use Rattle.std.proofs.lemmas.List.{length-map}
-use Rattle.filter_api.specs.Spellings.{MayStand}
+use Rattle.filter_api.specs.Spellings.{MayBeTrie}
 use Rattle.filter_model.specs.Leaves.{Filter}
 use Rattle.filter_model.specs.Image.{in_slots}
 use Rattle.filter_model.specs.Trie.{height}
@@ -18,7 +18,7 @@ use Rattle.trie_levels.proofs.Totals.{valid_lists_have_tries}
 abbrev pub array_of : Filter → SuffixArray
 array_of i = record { hash_bits = i.hash_bits; real_bits = i.real_bits; slots = map leaf_suffix (in_slots i.leaves) }
 
-pub parts_of : (i : Filter) → MayStand i.hash_bits i.real_bits i.cutoff i.leaves
+pub parts_of : (i : Filter) → MayBeTrie i.hash_bits i.real_bits i.cutoff i.leaves
     → AreParts i i.cutoff (height i.leaves) (upper i.cutoff i.leaves) (second_half (upper i.cutoff i.leaves) (lower i.cutoff i.leaves)) (array_of i)
 parts_of i m = record {
   may_stand = m;

@@ -12,7 +12,7 @@ use Rattle.filter_model.specs.Leaves.{Filter, Leaf}
 use Rattle.filter_model.specs.Nodes.{Node}
 use Rattle.filter_model.specs.Strings.{bytes_eq}
 use Rattle.filter_model.specs.Trie.{path, slots}
-use Rattle.filter_model.specs.Valid.{IsValid}
+use Rattle.filter_model.specs.Valid.{IsLeafList}
 use Rattle.filter_trie.proofs.Parts.{has_trie}
 use Rattle.filter_trie.specs.Parts.{AreParts}
 use Rattle.suffix_bits.proofs.Packing.{suffix_in-number, suffix_number-lt}
@@ -21,7 +21,7 @@ use Rattle.trie_laws.proofs.Slots.{leaves_have_slots}
 use Rattle.trie_levels.specs.Tries.{HasTrie}
 use Rattle.trie_model.specs.Halves.{Half}
 
-of_widths : (h r : ℕ) (ls : List Leaf) → IsValid h r ls → AllByRecursion (λ l. IsOfWidths h r (leaf_suffix l)) (in_slots ls)
+of_widths : (h r : ℕ) (ls : List Leaf) → IsLeafList h r ls → AllByRecursion (λ l. IsOfWidths h r (leaf_suffix l)) (in_slots ls)
 unfolding in_slots
 of_widths h r ls v =
     let P : Leaf → Type 0 = λ l. IsOfWidths h r (leaf_suffix l) in

@@ -17,7 +17,7 @@ use Rattle.filter_trie.specs.Parts.{AreParts, lower, upper}
 use Rattle.filter_trie.specs.Pending.{ArePending, IsNew, suffixes_passed}
 use Rattle.filter_trie.specs.declared.build_pending.Pending.{Pending}
 use Rattle.filter_model.specs.Image.{in_slots, suffixes}
-use Rattle.filter_model.proofs.Validity.{leaves_are_valid}
+use Rattle.filter_model.proofs.Validity.{leaves_are_listed}
 use Rattle.filter_trie.specs.Building.{half_to}
 use Rattle.louds_dense.specs.Places.{counts_of}
 use Rattle.suffix_bits.specs.Slots.{SuffixArray, array_bits, leaf_suffix, packed_suffixes}
@@ -213,7 +213,7 @@ packed_are : (h r : ℕ) (keys : List (List ℕ)) → IsKeyList keys → r ≤ 3
 packed_are h r keys k small top at =
     let ls = leaves_of h r keys in
     ap (λ (n : ℕ). packed_suffixes h r (map leaf_suffix (by_length n ls))) at
-    ∙ ap (λ (xs : List Leaf). packed_suffixes h r (map leaf_suffix xs)) (sym (slots_by_length ls (valid_lists_have_tries h r ls (leaves_are_valid h r keys small k))))
+    ∙ ap (λ (xs : List Leaf). packed_suffixes h r (map leaf_suffix xs)) (sym (slots_by_length ls (valid_lists_have_tries h r ls (leaves_are_listed h r keys small k))))
 
 abbrev pub image_of : (h r c : ℕ) → List (List ℕ) → Filter
 image_of h r c keys = record { hash_bits = h; real_bits = r; cutoff = c; leaves = leaves_of h r keys }
@@ -232,7 +232,7 @@ are_parts h r keys c top dense sparse array k hw rw tall at d s a =
     ap (λ (n : ℕ). drop (length dense) (map f (nodes_to ls n))) at ∙ ap (λ (qs : List (List ℕ)). drop (length dense) (map f qs)) cut.both ∙ ap (drop (length dense)) (map-append f (nodes_to ls c) cut.rest)
     ∙ ap (λ (n : ℕ). drop n (map f (nodes_to ls c) ++ map f cut.rest)) long ∙ drop-append_seam (map f (nodes_to ls c)) (map f cut.rest) in
     let top_is : top ≡ height full = at ∙ sym (same_height h r keys) in
-    let valid = leaves_are_valid h r keys rw k in
+    let valid = leaves_are_listed h r keys rw k in
     let t = valid_lists_have_tries h r full valid in
     record {
       may_stand = record { hash_width = hw; real_width = rw; cutoff_in = omega (arith, tall, same_height h r keys); valid = valid };

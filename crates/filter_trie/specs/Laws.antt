@@ -1,10 +1,10 @@
 -- What a place says of the trie, and what is found there, by the strings of its nodes and leaves.
 use Rattle.std.specs.Prelude.{◌≡◌, ℕ, ◌+◌, ◌<◌, ◌≤◌, false, List, [], ◌∷◌, ◌++◌, length, map, get_or, Some, None}
-use Rattle.filter_api.specs.Spellings.{MayStand}
+use Rattle.filter_api.specs.Spellings.{MayBeTrie}
 use Rattle.filter_model.specs.Leaves.{Filter, Leaf}
 use Rattle.filter_model.specs.Nodes.{first_place, trie_of}
 use Rattle.filter_model.specs.Trie.{END, is_reached, nodes, path, places, slots}
-use Rattle.filter_model.specs.Valid.{IsValid}
+use Rattle.filter_model.specs.Valid.{IsLeafList}
 use Rattle.filter_trie.specs.Places.{IsTaken, IsWithin, branch_number}
 use Rattle.filter_trie.specs.Walks.{IsNodeAt, IsSlotAt}
 use Rattle.filter_trie.specs.declared.place.Place.{Place}
@@ -18,7 +18,7 @@ PlacesAreWithin = (i : Filter) (p : Place) → IsTaken i p → IsWithin i p
 
 -- and its number is that of a branch of the trie
 abbrev pub PlacesAreNumbers : Type 0
-PlacesAreNumbers = (i : Filter) (p : Place) → MayStand i.hash_bits i.real_bits i.cutoff i.leaves → IsTaken i p → branch_number i p < length (places i.leaves)
+PlacesAreNumbers = (i : Filter) (p : Place) → MayBeTrie i.hash_bits i.real_bits i.cutoff i.leaves → IsTaken i p → branch_number i p < length (places i.leaves)
 
 -- ---- what is found
 
@@ -70,7 +70,7 @@ pub record CountsAt (ls : List Leaf) (v : ℕ) : Type 0 where
       → first_leaf ls (get_or (places ls) n []) + leaves_below ls (get_or (places ls) n []) ≡ first_leaf ls (get_or (nodes ls) v []) + leaves_below ls (get_or (nodes ls) v [])
 
 abbrev pub LeavesAreCounted : Type 0
-LeavesAreCounted = (hash_bits real_bits : ℕ) (ls : List Leaf) (v : ℕ) → IsValid hash_bits real_bits ls → v < length (nodes ls) → CountsAt ls v
+LeavesAreCounted = (hash_bits real_bits : ℕ) (ls : List Leaf) (v : ℕ) → IsLeafList hash_bits real_bits ls → v < length (nodes ls) → CountsAt ls v
 
 -- a slot's path has one leaf behind it: the leaf whose path it is
 pub record IsOneLeaf (ls : List Leaf) (q : List ℕ) : Type 0 where
@@ -78,4 +78,4 @@ pub record IsOneLeaf (ls : List Leaf) (q : List ℕ) : Type 0 where
   pub path_is : get_or (map path ls) (first_leaf ls q) [] ≡ q
 
 abbrev pub SlotsAreLeaves : Type 0
-SlotsAreLeaves = (hash_bits real_bits : ℕ) (ls : List Leaf) (s : ℕ) → IsValid hash_bits real_bits ls → s < length (slots ls) → IsOneLeaf ls (get_or (slots ls) s [])
+SlotsAreLeaves = (hash_bits real_bits : ℕ) (ls : List Leaf) (s : ℕ) → IsLeafList hash_bits real_bits ls → s < length (slots ls) → IsOneLeaf ls (get_or (slots ls) s [])

@@ -2,7 +2,7 @@
 use Rattle.std.specs.Prelude.{◌≡◌, ℕ, ◌+◌, ◌*◌, List, ◌++◌, length, map, take, drop}
 use Rattle.std.specs.List.{range_with_len}
 use Rattle.bit_model.specs.Numbers.{number_at}
-use Rattle.filter_api.specs.Spellings.{MayStand}
+use Rattle.filter_api.specs.Spellings.{MayBeTrie}
 use Rattle.filter_image_model.specs.Levels.{leaves_behind, levels_from, root_leaves}
 use Rattle.filter_model.specs.Image.{suffixes}
 use Rattle.filter_model.specs.Leaves.{Filter, Leaf}
@@ -33,7 +33,7 @@ image_by cutoff levels dense sparse array =
 
 -- the parts are those of this
 pub record AreParts (i : Filter) (cutoff levels : ℕ) (dense : List Node) (sparse : Half) (array : SuffixArray) : Type 0 where
-  pub may_stand : MayStand i.hash_bits i.real_bits i.cutoff i.leaves
+  pub may_stand : MayBeTrie i.hash_bits i.real_bits i.cutoff i.leaves
   pub cutoff_is : cutoff ≡ i.cutoff
   pub levels_are : levels ≡ height i.leaves
   pub dense_is : dense ≡ upper i.cutoff i.leaves

@@ -1,6 +1,6 @@
 //! The least leaf behind a branch.
 ghost use Rattle.std.specs.Prelude.{◌≡◌, ◌<◌, ◌≤◌, length, Some};
-ghost use Rattle.filter_api.specs.Spellings.{MayStand};
+ghost use Rattle.filter_api.specs.Spellings.{MayBeTrie};
 ghost use Rattle.filter_model.specs.Trie.{nodes, places};
 ghost use Rattle.filter_trie.specs.Parts.{upper};
 ghost use Rattle.filter_trie.specs.Places.{IsTaken, branch_number, string_at, trie};
@@ -33,7 +33,7 @@ impl<A: Allocator> Trie<A> {
         requires { IsTaken self.now place }
         ensures lead { IsLead (trie self.now) (branch_number self.now place) result }
         ensures number { branch_number self.now place < length (places self.now.leaves) }
-        ensures stands { MayStand self.now.hash_bits self.now.real_bits self.now.cutoff self.now.leaves }
+        ensures stands { MayBeTrie self.now.hash_bits self.now.real_bits self.now.cutoff self.now.leaves }
     {
         match place {
             Place::Dense(bit) => match self.dense.child(bit) {

@@ -1,7 +1,8 @@
 //! A filter's trie over both halves: the upper levels dense, the lower ones sparse, and one list of nodes.
 //!
-//! A [`Trie`] is made of the sections of one valid list of leaves ([`Trie::of`]) and stands for that list, so that what it
-//! answers is said without its halves. `walk` goes down by a key's bytes, from the root, to the one leaf that the key
+//! A [`Trie`] is made of the sections of one leaf list ([`Trie::of`]) and stands for that list, so that what it answers is
+//! said without its halves. A leaf may be alone in its node, as whole keys are: of which lists there are filters, a filter
+//! asks. `walk` goes down by a key's bytes, from the root, to the one leaf that the key
 //! reaches.
 //!
 //! [`build`] makes it of sorted keys, level by level, from their spans and the plan of their levels (`trie_levels`). No leaf

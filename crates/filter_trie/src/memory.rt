@@ -1,7 +1,7 @@
 //! How many bytes the image of a trie has, and how many bits of memory the trie takes.
 ghost use Rattle.std.specs.Prelude.{◌≡◌, ◌≤◌, ◌<◌, ◌+◌, ◌*◌, ◌^◌, length};
 ghost use Rattle.std.specs.Int.{div_ceil};
-ghost use Rattle.filter_api.specs.Spellings.{MayStand};
+ghost use Rattle.filter_api.specs.Spellings.{MayBeTrie};
 ghost use Rattle.filter_model.specs.Image.{image};
 ghost use Rattle.filter_model.specs.Nodes.{all};
 ghost use Rattle.filter_trie.specs.Parts.{lower, upper};
@@ -65,9 +65,9 @@ impl<A: Allocator> Trie<A> {
             .saturating_add(sums)
     }
 
-    // The counts of the sections. The leaves are a list that may stand, as the clause of the height says, so that they are few.
+    // The counts of the sections. The leaves are a leaf list, as the clause of the height says, so that they are few.
     fn section_counts(&self) -> SectionCounts
-        ensures stands { MayStand self.now.hash_bits self.now.real_bits self.now.cutoff self.now.leaves }
+        ensures stands { MayBeTrie self.now.hash_bits self.now.real_bits self.now.cutoff self.now.leaves }
         ensures dense { result.dense ≡ length (upper self.now.cutoff self.now.leaves) }
         ensures labels { result.labels ≡ length (all (lower self.now.cutoff self.now.leaves)) }
         ensures suffixes { result.suffixes ≡ length self.now.leaves * (self.now.hash_bits + self.now.real_bits) }

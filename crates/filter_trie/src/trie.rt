@@ -1,7 +1,7 @@
 //! The trie and its walks.
 ghost use Rattle.std.specs.Prelude.{◌≡◌, ◌<◌, ◌≤◌, ◌+◌, ◌++◌, [], ◌∷◌, false, length, get_or, map, IfSome, MatchOption};
 ghost use Rattle.std.specs.Option.{option_map};
-ghost use Rattle.filter_api.specs.Spellings.{MayStand};
+ghost use Rattle.filter_api.specs.Spellings.{MayBeTrie};
 ghost use Rattle.filter_model.specs.Leaves.{Filter};
 ghost use Rattle.filter_model.specs.Image.{in_slots, suffixes as suffix_section};
 ghost use Rattle.filter_model.specs.Trie.{END, height as height_of, is_reached, nodes};
@@ -50,7 +50,7 @@ impl<A: Allocator> Model for Trie<A> {
 }
 
 impl<A: Allocator> Trie<A> {
-    /// The trie with these parts, which are those of one valid list of leaves with its widths and a cutoff. Goes down its
+    /// The trie with these parts, which are those of one leaf list with its widths and a cutoff. Goes down its
     /// levels once, and takes no memory.
     pub fn of(
         cutoff: u16,
@@ -83,11 +83,11 @@ impl<A: Allocator> Trie<A> {
         self.cutoff
     }
 
-    /// How many levels of nodes there are: at least as many as are dense. The leaves are always a list for which a filter may
-    /// stand.
+    /// How many levels of nodes there are: at least as many as are dense. The leaves are always a list that has a trie; whether
+    /// a filter may stand for it, a trie does not say.
     pub fn height(&self) -> u16
         ensures height { result ≡ height_of self.now.leaves }
-        ensures stands { MayStand self.now.hash_bits self.now.real_bits self.now.cutoff self.now.leaves }
+        ensures stands { MayBeTrie self.now.hash_bits self.now.real_bits self.now.cutoff self.now.leaves }
         ensures cutoff { self.now.cutoff ≤ result }
     {
         self.height

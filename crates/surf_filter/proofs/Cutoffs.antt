@@ -1,11 +1,13 @@
--- The rule's cutoff is at most the height.
-use Rattle.std.proofs.Common.{◌≡◌, ℕ, zero, suc, ◌≤◌, Bool, true, false, cond, List, length, arith}
+-- The rule's cutoff is at most the height, so the filter of keys may stand.
+use Rattle.std.proofs.Common.{◌≡◌, ℕ, zero, suc, ◌≤◌, Bool, true, false, cond, List, length, arith, refl}
+use Rattle.filter_api.specs.Spellings.{MayStand}
 use Rattle.filter_model.specs.Keys.{IsKeyList}
 use Rattle.filter_model.specs.Leaves.{Leaf, leaves_of}
-use Rattle.filter_model.specs.Trie.{cutoff_from, cutoff_of, height, level_nodes, may_be_dense}
-use Rattle.filter_model.proofs.Validity.{leaves_are_valid}
+use Rattle.filter_model.specs.Trie.{cutoff_from, cutoff_of, height, level_labels, level_nodes, may_be_dense}
+use Rattle.filter_model.proofs.Validity.{leaves_are_listed, leaves_are_valid}
 use Rattle.filter_trie.proofs.Whole.{tall_nodes}
-use Rattle.key_base.specs.Limits.{max_real_bits}
+use Rattle.key_base.specs.Limits.{max_hash_bits, max_real_bits}
+use Rattle.surf_filter.specs.Cutoffs.{rule_cutoff}
 use Rattle.trie_levels.proofs.Totals.{valid_lists_have_tries}
 use Rattle.trie_levels.specs.Spans.{AreSpans, spans_of}
 use Rattle.trie_levels.specs.declared.spans.Span.{Span}
@@ -26,6 +28,18 @@ counted_low ratio ls nodes labels e = omega (arith, cutoff_low (length nodes) ra
 pub are_spans : (hash_bits real_bits : ℕ) (keys : List (List ℕ)) (spans : List Span) → real_bits ≤ max_real_bits → IsKeyList keys → spans ≡ spans_of (leaves_of hash_bits real_bits keys)
     → AreSpans (leaves_of hash_bits real_bits keys) spans
 are_spans hash_bits real_bits keys spans width list e = record {
-  trie = valid_lists_have_tries hash_bits real_bits (leaves_of hash_bits real_bits keys) (leaves_are_valid hash_bits real_bits keys width list);
+  trie = valid_lists_have_tries hash_bits real_bits (leaves_of hash_bits real_bits keys) (leaves_are_listed hash_bits real_bits keys width list);
   are = e;
 }
+
+-- the leaves of keys with the rule's cutoff
+pub built_stands : (hash_bits real_bits ratio : ℕ) (keys : List (List ℕ)) → hash_bits ≤ max_hash_bits → real_bits ≤ max_real_bits → IsKeyList keys
+    → MayStand hash_bits real_bits (rule_cutoff ratio (leaves_of hash_bits real_bits keys)) (leaves_of hash_bits real_bits keys)
+built_stands hash_bits real_bits ratio keys hash real list =
+    let ls = leaves_of hash_bits real_bits keys in
+    record {
+      hash_width = hash;
+      real_width = real;
+      cutoff_in = counted_low ratio ls (level_nodes ls) (level_labels ls) refl;
+      valid = leaves_are_valid hash_bits real_bits keys real list;
+    }

@@ -14,7 +14,7 @@ use Rattle.filter_model.specs.Answers.{fits, fits_point, point}
 use Rattle.filter_model.specs.Leaves.{Leaf, hash_bits_of}
 use Rattle.filter_model.specs.Strings.{bits, bytes_eq, is_prefix, prefix_number}
 use Rattle.filter_model.specs.Trie.{END, path, slots}
-use Rattle.filter_model.specs.Valid.{IsLeaf, IsValid}
+use Rattle.filter_model.specs.Valid.{IsLeaf, IsLeafList}
 use Rattle.filter_trie.proofs.Reached.{prefix_refl, prefix_take}
 use Rattle.filter_trie.specs.Walks.{ReachesLeaf}
 use Rattle.suffix_bits.specs.Slots.{leaf_suffix}
@@ -119,7 +119,7 @@ module _ (hash_bits n : ℕ) (l : Leaf) (x : List ℕ) (leaf : IsLeaf hash_bits 
 
 -- ---- a list
 
-module _ (hash_bits n : ℕ) (ls : List Leaf) (valid : IsValid hash_bits n ls) (x : List ℕ) (w : IsBytes x) where
+module _ (hash_bits n : ℕ) (ls : List Leaf) (valid : IsLeafList hash_bits n ls) (x : List ℕ) (w : IsBytes x) where
   has : HasTrie ls
   has = valid_lists_have_tries hash_bits n ls valid
 

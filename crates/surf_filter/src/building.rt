@@ -1,6 +1,7 @@
 //! The trie of sorted keys, with as many levels dense as the rule allows.
 ghost use Rattle.std.specs.Prelude.{◌≡◌, ℕ, IfOk};
 ghost use Rattle.filter_api.specs.Ranges.{InRange};
+ghost use Rattle.filter_api.specs.Spellings.{MayStand};
 ghost use Rattle.filter_model.specs.Keys.{IsKeyList};
 ghost use Rattle.filter_model.specs.Leaves.{leaves_of};
 ghost use Rattle.surf_filter.specs.Cutoffs.{rule_cutoff};
@@ -21,12 +22,13 @@ pub(crate) fn trie_of_keys(
 ) -> Result<Trie<Global>, AllocError>
     requires keys { IsKeyList keys.now }
     requires settings { InRange settings }
-    ensures { IfOk result (λ trie. trie ≡ record {
+    ensures trie { IfOk result (λ trie. trie ≡ record {
       hash_bits = settings.hash_bits;
       real_bits = settings.real_bits;
       cutoff = rule_cutoff settings.ratio (leaves_of settings.hash_bits settings.real_bits keys.now);
       leaves = leaves_of settings.hash_bits settings.real_bits keys.now;
     }) }
+    ensures stands { IfOk result (λ trie. MayStand trie.hash_bits trie.real_bits trie.cutoff trie.leaves) }
 {
     let (hash_bits, real_bits) = (settings.hash_bits, settings.real_bits);
     let spans = key_spans(alloc, keys)?;

@@ -1,7 +1,7 @@
 //! The filter and what it answers, in memory of any allocator.
 ghost use Rattle.std.specs.Prelude.{◌≡◌, ◌<◌, ◌≤◌, ◌+◌, ◌*◌, ◌++◌, length, slice_get, IfOk, IfSome, OnErr, OnOk};
 ghost use Rattle.byte_fields.specs.Faults.{fault as fault_at};
-ghost use Rattle.filter_api.specs.Spellings.{IsNoSpelling, IsSpelling};
+ghost use Rattle.filter_api.specs.Spellings.{IsNoSpelling, IsSpelling, MayStand};
 ghost use Rattle.filter_api.specs.declared.errors.FilterFault.{FilterFault};
 ghost use Rattle.filter_model.specs.Answers.{begins, first, point, ranged, tally as tally_of};
 ghost use Rattle.filter_model.specs.Image.{image};
@@ -22,24 +22,31 @@ pub struct SurfFilter<A: Allocator> {
 }
 
 impl<A: Allocator> Model for SurfFilter<A> {
+    ghost use Rattle.filter_api.specs.Spellings.{MayStand};
     ghost use Rattle.filter_model.specs.Leaves.{Filter};
 
     ghost Value = { Filter };
 
     ghost view = { λ f. f.trie };
+
+    // a trie may be of leaves that stand alone; a filter's may not
+    ghost invariant = { λ f. MayStand f.trie.hash_bits f.trie.real_bits f.trie.cutoff f.trie.leaves };
 }
 
 impl<A: Allocator> SurfFilter<A> {
-    /// The filter that stands for the leaves of a trie. Takes no memory.
+    /// The filter that stands for the leaves of a trie, which are a list that may: none of their stubs is longer than needed.
+    /// Takes no memory.
     pub fn of(trie: Trie<A>) -> SurfFilter<A>
+        requires { MayStand trie.hash_bits trie.real_bits trie.cutoff trie.leaves }
         ensures { result ≡ trie }
     {
         SurfFilter { trie }
     }
 
-    /// The trie, whose sections are those of the filter's image.
+    /// The trie, whose sections are those of the filter's image. Its leaves are a list for which a filter may stand.
     pub fn trie(&self) -> &Trie<A>
-        ensures { result.now ≡ self.now }
+        ensures same { result.now ≡ self.now }
+        ensures stands { MayStand self.now.hash_bits self.now.real_bits self.now.cutoff self.now.leaves }
     {
         &self.trie
     }

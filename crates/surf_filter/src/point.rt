@@ -1,6 +1,6 @@
 //! What a trie answers of one key.
 ghost use Rattle.std.specs.Prelude.{◌≡◌, ◌<◌, length, None, MatchOption};
-ghost use Rattle.filter_api.specs.Spellings.{MayStand};
+ghost use Rattle.filter_api.specs.Spellings.{MayBeTrie};
 ghost use Rattle.filter_model.specs.Answers.{point};
 ghost use Rattle.filter_trie.specs.Walks.{ReachesLeaf};
 ghost use Rattle.surf_filter.specs.Reaching.{has_suffix};
@@ -28,12 +28,12 @@ pub(crate) fn holds<A: Allocator>(trie: &Trie<A>, key: &[u8]) -> bool
     }
 }
 
-// The leaf that a key reaches, in a trie of a list that may stand.
+// The leaf that a key reaches, in a trie of a leaf list.
 fn reached_leaf<A: Allocator>(trie: &Trie<A>, key: &[u8]) -> Option<LeafReached>
-    ensures stands { MayStand trie.now.hash_bits trie.now.real_bits trie.now.cutoff trie.now.leaves }
+    ensures stands { MayBeTrie trie.now.hash_bits trie.now.real_bits trie.now.cutoff trie.now.leaves }
     ensures leaf { MatchOption result (None ≡ slot_of_key trie.now.leaves key.now) (λ r. ReachesLeaf trie.now.leaves key.now r.slot r.stub) }
 {
-    // The clause of the height says that the leaves are a list that may stand.
+    // The clause of the height says that the leaves are a leaf list.
     let _ = trie.height();
     match trie.walk_to(key) {
         None => None,

@@ -10,7 +10,7 @@ pub fn levels_follow()
     ensures endings { BranchesAreNodesAndEndings }
 {}
 
-/// Every valid leaf list has a trie, so that it can be planned.
+/// Every leaf list has a trie, also where a leaf stands alone, so that it can be planned.
 pub fn valid_lists_have_tries()
     ensures { ValidListsHaveTries }
 {}

@@ -10,7 +10,7 @@
 //! SIGMOD 2018).
 //!
 //! A plan costs one comparison for each two neighbours, which reads what they share, and memory for four numbers a
-//! level. It asks that the stubs rise and end rightly, as those of every valid leaf list do
+//! level. It asks that the stubs rise and end rightly, as those of every leaf list do
 //! ([`valid_lists_have_tries`]); of another list the counts would be wrong. Of a key list no leaf need be made:
 //! [`spans_of`] takes 8 bytes a key, by which [`plan_spans`] counts, and a builder goes over the same spans level by level
 //! ([`gathered_are_nodes`]).

@@ -1,7 +1,7 @@
 use Rattle.std.proofs.Common.{◌≡◌, List, ℕ, arith, ◌∙◌}
 use Rattle.filter_model.specs.Keys.{IsKeyList}
 use Rattle.filter_model.specs.Leaves.{leaves_of}
-use Rattle.filter_model.proofs.Validity.{leaves_are_valid}
+use Rattle.filter_model.proofs.Validity.{leaves_are_listed}
 use Rattle.filter_trie.proofs.Whole.{tall_nodes}
 use Rattle.trie_levels.proofs.Totals.{valid_lists_have_tries}
 use Rattle.trie_levels.specs.Spans.{AreSpans, spans_of}
@@ -9,7 +9,7 @@ use Rattle.trie_levels.specs.declared.spans.Span.{Span}
 use Rattle.filter_bench.proofs.building.build_timed.Goals as goal
 
 are_spans : (keys : List (List ℕ)) (spans : List Span) → IsKeyList keys → spans ≡ spans_of (leaves_of 0 0 keys) → AreSpans (leaves_of 0 0 keys) spans
-are_spans keys spans k e = record { trie = valid_lists_have_tries 0 0 (leaves_of 0 0 keys) (leaves_are_valid 0 0 keys (omega arith) k); are = e }
+are_spans keys spans k e = record { trie = valid_lists_have_tries 0 0 (leaves_of 0 0 keys) (leaves_are_listed 0 0 keys (omega arith) k); are = e }
 
 pub plan_spans-requires : goal.plan_spans-requires
 plan_spans-requires g c =

@@ -12,7 +12,7 @@ returns-clause-same c =
     let i = c.args.trie.now in
     let bytes = c.as_slice.result.now in
     let own : IsImage i bytes = record {
-      may_stand = c.height-height.ensures.stands;
+      may_stand = c.requires;
       bytes_are = c.as_slice.ensures.value ∙ c.in_ok-encode.ensures.added ∙ ap (λ (l : List ℕ). l ++ image i.hash_bits i.real_bits i.cutoff i.leaves) c.new-image.ensures.items;
     } in
     IfOk-weaker c.decode.result (λ t. IsImage t bytes) (λ t. t ≡ i) (λ t is. same i t bytes own is) c.decode.ensures.read
@@ -22,7 +22,7 @@ returns-clause-memory c =
     let i = c.args.trie.now in
     let bytes = c.as_slice.result.now in
     let own : IsImage i bytes = record {
-      may_stand = c.height-height.ensures.stands;
+      may_stand = c.requires;
       bytes_are = c.as_slice.ensures.value ∙ c.in_ok-encode.ensures.added ∙ ap (λ (l : List ℕ). l ++ image i.hash_bits i.real_bits i.cutoff i.leaves) c.new-image.ensures.items;
     } in
     IfErr-weaker c.decode.result (IsCause bytes) (λ e. e ≡ Memory) (no_fault i bytes own) c.decode.ensures.refused

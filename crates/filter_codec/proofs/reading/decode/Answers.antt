@@ -1,114 +1,18 @@
-use Rattle.std.proofs.Common.{◌∙◌, ap, length, sym}
-use Rattle.filter_codec.proofs.Judged.{at_head, at_length, at_padding, at_strays}
-use Rattle.filter_codec.proofs.Spelled.{dense_bytes, few_rows, strays_same, whole}
-use Rattle.filter_codec.proofs.Strays.{bytes_of}
-use Rattle.filter_codec.specs.Judging.{image_end}
-use Rattle.filter_image_model.proofs.Headers.{header_kept}
+use Rattle.std.proofs.lemmas.Result.{IfErr-weaker, IfOk-weaker}
+use Rattle.filter_codec.proofs.Again.{cause_of_stubs, image_of_stubs}
+use Rattle.filter_codec.specs.Decoding.{IsCause, IsCauseBy}
+use Rattle.filter_image_model.proofs.Validity.{stubs_are_a_kind}
+use Rattle.filter_image_model.specs.Kinds.{of_stubs}
+use Rattle.filter_image_model.specs.Laws.{IsImage, IsImageBy}
 use Rattle.filter_codec.proofs.reading.decode.Goals as goal
 
-pub returns-in-Some-clause-refused : goal.returns-in-Some-clause-refused
-returns-in-Some-clause-refused g c =
-    let b = c.args.bytes.now in
-    let are = bytes_of b c.type_inv.bytes in
-    at_head b are c.in-Some.fault c.in-Some.ensures
-
-pub read_header-header-requires : goal.read_header-header-requires
-read_header-header-requires g c =
-    (header_kept c.args.bytes.now (sym c.in_default.ensures)).long
-
-pub returns-in-Some-length_fault-clause-refused : goal.returns-in-Some-length_fault-clause-refused
-returns-in-Some-length_fault-clause-refused g c =
-    let b = c.args.bytes.now in
-    let are = bytes_of b c.type_inv.bytes in
-    let head = sym c.in_default.ensures in
-    at_length b are c.in-Some-length_fault.fault head c.in-Some-length_fault.ensures.fault
-
-pub section_places-places-requires : goal.section_places-places-requires
-section_places-places-requires g c =
-    c.in_default-length_fault.ensures.fits
-
-pub padding_fault-requires-clause-whole : goal.padding_fault-requires-clause-whole
-padding_fault-requires-clause-whole g c =
-    let b = c.args.bytes.now in
-    let are = bytes_of b c.type_inv.bytes in
-    let head = sym c.in_default.ensures in
-    let is = c.read_header-header.ensures in
-    let lengths = sym c.in_default-length_fault.ensures.fault in
-    let w = whole b lengths in
-    ap image_end is ∙ w
-
-pub returns-in-Some-padding_fault-clause-refused : goal.returns-in-Some-padding_fault-clause-refused
-returns-in-Some-padding_fault-clause-refused g c =
-    let b = c.args.bytes.now in
-    let are = bytes_of b c.type_inv.bytes in
-    let head = sym c.in_default.ensures in
-    let is = c.read_header-header.ensures in
-    let lengths = sym c.in_default-length_fault.ensures.fault in
-    let w = whole b lengths in
-    at_padding b are c.in-Some-padding_fault.fault head lengths c.in-Some-padding_fault.ensures
-
-pub cut-sections-requires-clause-whole : goal.cut-sections-requires-clause-whole
-cut-sections-requires-clause-whole g c =
-    let b = c.args.bytes.now in
-    let are = bytes_of b c.type_inv.bytes in
-    let head = sym c.in_default.ensures in
-    let is = c.read_header-header.ensures in
-    let lengths = sym c.in_default-length_fault.ensures.fault in
-    let w = whole b lengths in
-    ap image_end is ∙ w
-
-pub stray_fault-requires-clause-same : goal.stray_fault-requires-clause-same
-stray_fault-requires-clause-same g c =
-    let b = c.args.bytes.now in
-    let are = bytes_of b c.type_inv.bytes in
-    let head = sym c.in_default.ensures in
-    let is = c.read_header-header.ensures in
-    let lengths = sym c.in_default-length_fault.ensures.fault in
-    let w = whole b lengths in
-    ap length c.cut-sections.ensures.dense_children ∙ (dense_bytes b w).1 ∙ sym (ap length c.cut-sections.ensures.dense_labels ∙ (dense_bytes b w).0)
-
-pub stray_fault-requires-clause-few : goal.stray_fault-requires-clause-few
-stray_fault-requires-clause-few g c =
-    let b = c.args.bytes.now in
-    let are = bytes_of b c.type_inv.bytes in
-    let head = sym c.in_default.ensures in
-    let is = c.read_header-header.ensures in
-    let lengths = sym c.in_default-length_fault.ensures.fault in
-    let w = whole b lengths in
-    few_rows b c.read_header-header.result is c.in_default-length_fault.ensures.fits w _ (ap length c.cut-sections.ensures.dense_labels ∙ (dense_bytes b w).0)
-
-pub returns-in-Some-stray_fault-clause-refused : goal.returns-in-Some-stray_fault-clause-refused
-returns-in-Some-stray_fault-clause-refused g c =
-    let b = c.args.bytes.now in
-    let are = bytes_of b c.type_inv.bytes in
-    let head = sym c.in_default.ensures in
-    let is = c.read_header-header.ensures in
-    let lengths = sym c.in_default-length_fault.ensures.fault in
-    let w = whole b lengths in
-    let padding = sym c.in_default-padding_fault.ensures in
-    let same = strays_same b _ _ w c.cut-sections.ensures.dense_labels c.cut-sections.ensures.dense_children in
-    at_strays b are c.in-Some-stray_fault.fault head lengths padding (c.in-Some-stray_fault.ensures ∙ same)
-
-pub read_nodes-requires-clause-kept : goal.read_nodes-requires-clause-kept
-read_nodes-requires-clause-kept g c =
-    let b = c.args.bytes.now in
-    let are = bytes_of b c.type_inv.bytes in
-    let head = sym c.in_default.ensures in
-    let is = c.read_header-header.ensures in
-    let lengths = sym c.in_default-length_fault.ensures.fault in
-    let w = whole b lengths in
-    let padding = sym c.in_default-padding_fault.ensures in
-    let same = strays_same b _ _ w c.cut-sections.ensures.dense_labels c.cut-sections.ensures.dense_children in
-    record { bytes_are = are; header = head; lengths = lengths; padding = padding; strays = sym (c.in_default-stray_fault.ensures ∙ same) }
-
-pub read_nodes-requires-clause-fits : goal.read_nodes-requires-clause-fits
-read_nodes-requires-clause-fits g c =
-    c.in_default-length_fault.ensures.fits
+pub decode_by-requires : goal.decode_by-requires
+decode_by-requires g c = stubs_are_a_kind
 
 pub returns-clause-read : goal.returns-clause-read
 returns-clause-read g c =
-    c.read_nodes.ensures.read
+    IfOk-weaker c.decode_by.result (λ t. IsImageBy of_stubs t c.args.bytes.now) (λ t. IsImage t c.args.bytes.now) (λ t is. image_of_stubs t c.args.bytes.now is) c.decode_by.ensures.read
 
 pub returns-clause-refused : goal.returns-clause-refused
 returns-clause-refused g c =
-    c.read_nodes.ensures.refused
+    IfErr-weaker c.decode_by.result (IsCauseBy of_stubs c.args.bytes.now) (IsCause c.args.bytes.now) (cause_of_stubs c.args.bytes.now) c.decode_by.ensures.refused

@@ -3,12 +3,11 @@ use Rattle.std.specs.Prelude.{None}
 use Rattle.std.proofs.Math.Nat.{mul_comm}
 use Rattle.bit_words.proofs.Packing.{length-unpacked}
 use Rattle.bit_model.specs.Packed.{unpacked}
-use Rattle.filter_codec.proofs.Joining.{array_by, array_from, count_is, few_leaves, keeps, louds_same, out_of_memory, place_fits, product_fits, read_by, rule_by, size_fits, trie_by}
+use Rattle.filter_codec.proofs.Joining.{array_by, array_from, count_is, few_leaves, head_kept, keeps, louds_same, out_of_memory, place_fits, product_fits, read_by, rule_by, size_fits, trie_by}
 use Rattle.filter_codec.proofs.Judged.{at_louds, at_nodes, none_broken}
 use Rattle.filter_codec.proofs.Spelled.{are_long, bits_5, bits_6, whole}
-use Rattle.filter_codec.specs.Judging.{image_end}
+use Rattle.filter_codec.specs.Judging.{image_end, kind_seen}
 use Rattle.filter_codec.specs.declared.header.Header.{Header}
-use Rattle.filter_image_model.proofs.Headers.{header_kept}
 use Rattle.filter_image_model.specs.Header.{leaf_count_in, suffix_bits_in}
 use Rattle.filter_image_model.specs.Reading.{louds_fault}
 use Rattle.filter_codec.proofs.reading.read_nodes.Goals as goal
@@ -19,31 +18,31 @@ cut-sections-requires-clause-whole g c =
 
 pub returns-in_err-clone-clause-refused : goal.returns-in_err-clone-clause-refused
 returns-in_err-clone-clause-refused g c =
-    out_of_memory c.args.bytes.now c.from_residual.result c.from_residual.ensures.1
+    out_of_memory (kind_seen c.args.kind) c.args.bytes.now c.from_residual.result c.from_residual.ensures.1
 
 pub returns-in_err-louds-clause-refused : goal.returns-in_err-louds-clause-refused
 returns-in_err-louds-clause-refused g c =
-    out_of_memory c.args.bytes.now c.from_residual-in_err-louds.result c.from_residual-in_err-louds.ensures.1
+    out_of_memory (kind_seen c.args.kind) c.args.bytes.now c.from_residual-in_err-louds.result c.from_residual-in_err-louds.ensures.1
 
 pub returns-in_err-clone-2-clause-refused : goal.returns-in_err-clone-2-clause-refused
 returns-in_err-clone-2-clause-refused g c =
-    out_of_memory c.args.bytes.now c.from_residual-in_err-clone-2.result c.from_residual-in_err-clone-2.ensures.1
+    out_of_memory (kind_seen c.args.kind) c.args.bytes.now c.from_residual-in_err-clone-2.result c.from_residual-in_err-clone-2.ensures.1
 
 pub returns-in_err-packed-clause-refused : goal.returns-in_err-packed-clause-refused
 returns-in_err-packed-clause-refused g c =
-    out_of_memory c.args.bytes.now c.from_residual-in_err-packed.result c.from_residual-in_err-packed.ensures.1
+    out_of_memory (kind_seen c.args.kind) c.args.bytes.now c.from_residual-in_err-packed.result c.from_residual-in_err-packed.ensures.1
 
 pub returns-in_err-clone-3-clause-refused : goal.returns-in_err-clone-3-clause-refused
 returns-in_err-clone-3-clause-refused g c =
-    out_of_memory c.args.bytes.now c.from_residual-in_err-clone-3.result c.from_residual-in_err-clone-3.ensures.1
+    out_of_memory (kind_seen c.args.kind) c.args.bytes.now c.from_residual-in_err-clone-3.result c.from_residual-in_err-clone-3.ensures.1
 
 pub returns-in_err-keep_sums-clause-refused : goal.returns-in_err-keep_sums-clause-refused
 returns-in_err-keep_sums-clause-refused g c =
-    out_of_memory c.args.bytes.now c.from_residual-in_err-keep_sums.result c.from_residual-in_err-keep_sums.ensures.1
+    out_of_memory (kind_seen c.args.kind) c.args.bytes.now c.from_residual-in_err-keep_sums.result c.from_residual-in_err-keep_sums.ensures.1
 
 pub returns-in_err-bits-clause-refused : goal.returns-in_err-bits-clause-refused
 returns-in_err-bits-clause-refused g c =
-    out_of_memory c.args.bytes.now c.from_residual-in_err-bits.result c.from_residual-in_err-bits.ensures.1
+    out_of_memory (kind_seen c.args.kind) c.args.bytes.now c.from_residual-in_err-bits.result c.from_residual-in_err-bits.ensures.1
 
 pub from_bytes-requires : goal.from_bytes-requires
 from_bytes-requires g c =
@@ -61,7 +60,7 @@ returns-in-Some-clause-refused g c =
     let is = c.requires.header in
     let louds = c.in_ok-louds.ensures ∙ bits_5 b _ h is c.cut-sections.ensures.louds in
     let same = louds_same b c.in_ok-louds.louds h.sparse louds (ap (λ (h : Header). h.sparse) is) in
-    at_louds b k.bytes_are c.in-Some.fault k (c.in-Some.ensures ∙ same)
+    at_louds (kind_seen c.args.kind) b c.requires.kind k.bytes_are c.in-Some.fault k (c.in-Some.ensures ∙ same)
 
 pub of-requires-clause-kept : goal.of-requires-clause-kept
 of-requires-clause-kept g c =
@@ -71,7 +70,7 @@ of-requires-clause-kept g c =
     let is = c.requires.header in
     let louds = c.in_ok-louds.ensures ∙ bits_5 b _ h is c.cut-sections.ensures.louds in
     let same = louds_same b c.in_ok-louds.louds h.sparse louds (ap (λ (h : Header). h.sparse) is) in
-    keeps b k (sym (c.in_default.ensures ∙ same))
+    keeps (kind_seen c.args.kind) b c.requires.kind k (sym (c.in_default.ensures ∙ same))
 
 pub of-requires-clause-louds : goal.of-requires-clause-louds
 of-requires-clause-louds g c =
@@ -89,7 +88,7 @@ overflow_mul-header g c =
     let h = c.args.header.now in
     let k = c.requires.kept in
     let is = c.requires.header in
-    let head = header_kept b k.header in
+    let head = head_kept (kind_seen c.args.kind) b c.requires.kind k.header in
     let wide : h.leaves * (c.from.result + c.from-2.result) ≡ h.leaves * (h.hash_bits + h.real_bits) = (λ j. h.leaves * (c.from.ensures j + c.from-2.ensures j)) in
     omega (arith, wide, product_fits h.leaves (h.hash_bits + h.real_bits) (omega (arith, ap (λ (h : Header). h.leaves) is, few_leaves b k.bytes_are head.long)) (omega (arith, ap (λ (h : Header). h.hash_bits) is, ap (λ (h : Header). h.real_bits) is, head.hash_width, head.real_width)))
 
@@ -109,7 +108,7 @@ of-suffixes-requires-clause-hash_width g c =
     let h = c.args.header.now in
     let k = c.requires.kept in
     let is = c.requires.header in
-    let head = header_kept b k.header in
+    let head = head_kept (kind_seen c.args.kind) b c.requires.kind k.header in
     omega (arith, ap (λ (h : Header). h.hash_bits) is, head.hash_width)
 
 pub of-suffixes-requires-clause-real_width : goal.of-suffixes-requires-clause-real_width
@@ -118,7 +117,7 @@ of-suffixes-requires-clause-real_width g c =
     let h = c.args.header.now in
     let k = c.requires.kept in
     let is = c.requires.header in
-    let head = header_kept b k.header in
+    let head = head_kept (kind_seen c.args.kind) b c.requires.kind k.header in
     omega (arith, ap (λ (h : Header). h.real_bits) is, head.real_width)
 
 pub of-suffixes-requires-clause-enough : goal.of-suffixes-requires-clause-enough
@@ -137,7 +136,7 @@ nodes_fault-requires-clause-cutoff g c =
     let h = c.args.header.now in
     let k = c.requires.kept in
     let is = c.requires.header in
-    let head = header_kept b k.header in
+    let head = head_kept (kind_seen c.args.kind) b c.requires.kind k.header in
     omega (arith, ap (λ (h : Header). h.cutoff) is, ap (λ (h : Header). h.height) is, head.cutoff)
 
 pub nodes_fault-requires-clause-height : goal.nodes_fault-requires-clause-height
@@ -146,7 +145,7 @@ nodes_fault-requires-clause-height g c =
     let h = c.args.header.now in
     let k = c.requires.kept in
     let is = c.requires.header in
-    let head = header_kept b k.header in
+    let head = head_kept (kind_seen c.args.kind) b c.requires.kind k.header in
     omega (arith, ap (λ (h : Header). h.height) is, head.some_height)
 
 pub nodes_fault-requires-clause-count : goal.nodes_fault-requires-clause-count
@@ -189,7 +188,7 @@ nodes_fault-requires-clause-wide g c =
     let wide : h.leaves * (c.from.result + c.from-2.result) ≡ h.leaves * (h.hash_bits + h.real_bits) = (λ j. h.leaves * (c.from.ensures j + c.from-2.ensures j)) in
     let bits = c.in_ok-bits.ensures ∙ ap (unpacked 8 c.cut-sections.result.suffixes.now) wide ∙ bits_6 b _ h is c.cut-sections.ensures.suffixes in
     let array = c.of-suffixes.ensures ∙ ap (array_from h c.in_ok-bits.bits) c.from-3.ensures in
-    let head = header_kept b k.header in
+    let head = head_kept (kind_seen c.args.kind) b c.requires.kind k.header in
     size_fits h c.in_ok-bits.bits c.of-suffixes.result array (omega (arith, ap (λ (h : Header). h.leaves) is, few_leaves b k.bytes_are head.long)) (omega (arith, ap (λ (h : Header). h.hash_bits) is, head.hash_width)) (omega (arith, ap (λ (h : Header). h.real_bits) is, head.real_width))
 
 pub returns-in-Some-nodes_fault-clause-refused : goal.returns-in-Some-nodes_fault-clause-refused
@@ -204,8 +203,8 @@ returns-in-Some-nodes_fault-clause-refused g c =
     let wide : h.leaves * (c.from.result + c.from-2.result) ≡ h.leaves * (h.hash_bits + h.real_bits) = (λ j. h.leaves * (c.from.ensures j + c.from-2.ensures j)) in
     let bits = c.in_ok-bits.ensures ∙ ap (unpacked 8 c.cut-sections.result.suffixes.now) wide ∙ bits_6 b _ h is c.cut-sections.ensures.suffixes in
     let array = c.of-suffixes.ensures ∙ ap (array_from h c.in_ok-bits.bits) c.from-3.ensures in
-    let rule = rule_by b h is c.args.places.now c.requires.places c.of-suffixes.result (array ∙ array_by b h is c.in_ok-bits.bits bits) c.in_ok-packed.packed c.in_ok-packed.ensures in
-    at_nodes b k.bytes_are c.in-Some-nodes_fault.fault k none (c.in-Some-nodes_fault.ensures ∙ rule)
+    let rule = rule_by (kind_seen c.args.kind) b h is c.args.places.now c.requires.places c.of-suffixes.result (array ∙ array_by (kind_seen c.args.kind) b h is c.in_ok-bits.bits bits) c.in_ok-packed.packed c.in_ok-packed.ensures in
+    at_nodes (kind_seen c.args.kind) b c.requires.kind k.bytes_are c.in-Some-nodes_fault.fault k none (c.in-Some-nodes_fault.ensures ∙ rule)
 
 pub trie_of-trie-requires : goal.trie_of-trie-requires
 trie_of-trie-requires g c =
@@ -219,9 +218,9 @@ trie_of-trie-requires g c =
     let wide : h.leaves * (c.from.result + c.from-2.result) ≡ h.leaves * (h.hash_bits + h.real_bits) = (λ j. h.leaves * (c.from.ensures j + c.from-2.ensures j)) in
     let bits = c.in_ok-bits.ensures ∙ ap (unpacked 8 c.cut-sections.result.suffixes.now) wide ∙ bits_6 b _ h is c.cut-sections.ensures.suffixes in
     let array = c.of-suffixes.ensures ∙ ap (array_from h c.in_ok-bits.bits) c.from-3.ensures in
-    let rule = rule_by b h is c.args.places.now c.requires.places c.of-suffixes.result (array ∙ array_by b h is c.in_ok-bits.bits bits) c.in_ok-packed.packed c.in_ok-packed.ensures in
-    let whole_kept = none_broken b k.bytes_are k none (c.in_default-nodes_fault.ensures ∙ rule) in
-    trie_by b h is c.args.places.now c.requires.places c.of-suffixes.result (array ∙ array_by b h is c.in_ok-bits.bits bits) c.in_ok-packed.packed c.in_ok-packed.ensures k.bytes_are whole_kept
+    let rule = rule_by (kind_seen c.args.kind) b h is c.args.places.now c.requires.places c.of-suffixes.result (array ∙ array_by (kind_seen c.args.kind) b h is c.in_ok-bits.bits bits) c.in_ok-packed.packed c.in_ok-packed.ensures in
+    let whole_kept = none_broken (kind_seen c.args.kind) b c.requires.kind k.bytes_are k none (c.in_default-nodes_fault.ensures ∙ rule) in
+    trie_by (kind_seen c.args.kind) b h is c.args.places.now c.requires.places c.of-suffixes.result (array ∙ array_by (kind_seen c.args.kind) b h is c.in_ok-bits.bits bits) c.in_ok-packed.packed c.in_ok-packed.ensures c.requires.kind k.bytes_are whole_kept
 
 pub returns-clause-read : goal.returns-clause-read
 returns-clause-read g c =
@@ -235,6 +234,6 @@ returns-clause-read g c =
     let wide : h.leaves * (c.from.result + c.from-2.result) ≡ h.leaves * (h.hash_bits + h.real_bits) = (λ j. h.leaves * (c.from.ensures j + c.from-2.ensures j)) in
     let bits = c.in_ok-bits.ensures ∙ ap (unpacked 8 c.cut-sections.result.suffixes.now) wide ∙ bits_6 b _ h is c.cut-sections.ensures.suffixes in
     let array = c.of-suffixes.ensures ∙ ap (array_from h c.in_ok-bits.bits) c.from-3.ensures in
-    let rule = rule_by b h is c.args.places.now c.requires.places c.of-suffixes.result (array ∙ array_by b h is c.in_ok-bits.bits bits) c.in_ok-packed.packed c.in_ok-packed.ensures in
-    let whole_kept = none_broken b k.bytes_are k none (c.in_default-nodes_fault.ensures ∙ rule) in
-    read_by b h is c.args.places.now c.requires.places c.of-suffixes.result (array ∙ array_by b h is c.in_ok-bits.bits bits) c.in_ok-packed.packed c.in_ok-packed.ensures k.bytes_are whole_kept _ (c.keep_sums.ensures ∙ c.trie_of-trie.ensures)
+    let rule = rule_by (kind_seen c.args.kind) b h is c.args.places.now c.requires.places c.of-suffixes.result (array ∙ array_by (kind_seen c.args.kind) b h is c.in_ok-bits.bits bits) c.in_ok-packed.packed c.in_ok-packed.ensures in
+    let whole_kept = none_broken (kind_seen c.args.kind) b c.requires.kind k.bytes_are k none (c.in_default-nodes_fault.ensures ∙ rule) in
+    read_by (kind_seen c.args.kind) b h is c.args.places.now c.requires.places c.of-suffixes.result (array ∙ array_by (kind_seen c.args.kind) b h is c.in_ok-bits.bits bits) c.in_ok-packed.packed c.in_ok-packed.ensures c.requires.kind k.bytes_are whole_kept _ (c.keep_sums.ensures ∙ c.trie_of-trie.ensures)

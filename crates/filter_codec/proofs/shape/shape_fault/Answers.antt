@@ -1,32 +1,14 @@
-use Rattle.std.proofs.Common.{◌∙◌, ap, length, sym, Bool}
-use Rattle.std.specs.Option.{option_or}
-use Rattle.std.specs.Prelude.{Option}
-use Rattle.byte_fields.specs.Faults.{Fault, refuse}
-use Rattle.filter_codec.proofs.Places.{or_none, or_some}
-use Rattle.filter_codec.specs.Rules.{labels_place}
-use Rattle.filter_image_model.specs.Reading.{nodes_fault}
+use Rattle.std.proofs.Common.{◌∙◌, ap, sym, Bool}
+use Rattle.filter_codec.specs.Rules.{shape_rule}
+use Rattle.filter_image_model.specs.Kinds.{leaves_beside, leaves_under}
 use Rattle.filter_codec.proofs.shape.shape_fault.Goals as goal
 
-pub returns-then-is_wrong_root : goal.returns-then-is_wrong_root
-returns-then-is_wrong_root g c =
-    let ds = c.args.packed.now.dense in
-    let ss = c.args.packed.now.sparse in
-    let l = c.args.header.now.leaves in
-    let later : Option Fault = option_or (nodes_fault (λ n. 32) l 40 ds) (nodes_fault length l (labels_place (length ds)) ss) in
-    c.fault.ensures ∙ ap (λ (t : Bool). refuse t 40 9 later) (sym (sym c.is_wrong_root.ensures ∙ c.if-is_wrong_root.true))
+pub returns-then-alone : goal.returns-then-alone
+returns-then-alone g c =
+    let h = c.args.header.now in
+    c.shape_fault_by.ensures ∙ ap (λ (a : Bool). shape_rule h.height (leaves_under a h.leaves) (leaves_beside a h.leaves) c.args.packed.now.dense c.args.packed.now.sparse) (sym c.if-alone.true)
 
-pub returns-in-Some : goal.returns-in-Some
-returns-in-Some g c =
-    let ds = c.args.packed.now.dense in
-    let ss = c.args.packed.now.sparse in
-    let l = c.args.header.now.leaves in
-    let later : Option Fault = option_or (nodes_fault (λ n. 32) l 40 ds) (nodes_fault length l (labels_place (length ds)) ss) in
-    or_some _ _ _ c.in-Some.ensures ∙ ap (λ (t : Bool). refuse t 40 9 later) (sym (sym c.is_wrong_root.ensures ∙ c.if-is_wrong_root.false))
-
-pub returns : goal.returns
-returns g c =
-    let ds = c.args.packed.now.dense in
-    let ss = c.args.packed.now.sparse in
-    let l = c.args.header.now.leaves in
-    let later : Option Fault = option_or (nodes_fault (λ n. 32) l 40 ds) (nodes_fault length l (labels_place (length ds)) ss) in
-    or_none _ _ _ c.in_default.ensures c.labels_fault.ensures ∙ ap (λ (t : Bool). refuse t 40 9 later) (sym (sym c.is_wrong_root.ensures ∙ c.if-is_wrong_root.false))
+pub returns-else-alone : goal.returns-else-alone
+returns-else-alone g c =
+    let h = c.args.header.now in
+    c.shape_fault_by-2.ensures ∙ ap (λ (a : Bool). shape_rule h.height (leaves_under a h.leaves) (leaves_beside a h.leaves) c.args.packed.now.dense c.args.packed.now.sparse) (sym c.if-alone.false)

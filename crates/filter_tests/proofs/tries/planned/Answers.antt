@@ -1,7 +1,7 @@
 use Rattle.std.proofs.Common.{◌≡◌, ◌≤◌, List, ℕ, arith, ◌∙◌}
 use Rattle.filter_model.specs.Keys.{IsKeyList}
 use Rattle.filter_model.specs.Leaves.{leaves_of}
-use Rattle.filter_model.proofs.Validity.{leaves_are_valid}
+use Rattle.filter_model.proofs.Validity.{leaves_are_listed}
 use Rattle.filter_trie.proofs.Whole.{tall_nodes}
 use Rattle.trie_levels.proofs.Totals.{valid_lists_have_tries}
 use Rattle.trie_levels.specs.Spans.{AreSpans, spans_of}
@@ -9,7 +9,7 @@ use Rattle.trie_levels.specs.declared.spans.Span.{Span}
 use Rattle.filter_tests.proofs.tries.planned.Goals as goal
 
 are_spans : (h r : ℕ) (keys : List (List ℕ)) (spans : List Span) → r ≤ 32 → IsKeyList keys → spans ≡ spans_of (leaves_of h r keys) → AreSpans (leaves_of h r keys) spans
-are_spans h r keys spans small k e = record { trie = valid_lists_have_tries h r (leaves_of h r keys) (leaves_are_valid h r keys small k); are = e }
+are_spans h r keys spans small k e = record { trie = valid_lists_have_tries h r (leaves_of h r keys) (leaves_are_listed h r keys small k); are = e }
 
 pub plan_spans-requires : goal.plan_spans-requires
 plan_spans-requires c = (
