@@ -1,7 +1,7 @@
 //! The interface of a filter.
 ghost use Rattle.std.specs.Prelude.{◌≡◌, ◌<◌, ◌≤◌, false, ℕ, List, ◌++◌, length, slice_get, IfSome, IfOk, IfErr, OnOk, OnErr};
 ghost use Rattle.byte_fields.specs.Faults.{Fault, fault as fault_at};
-ghost use Rattle.filter_model.specs.Answers.{begins, first, point, ranged, tally as tally_of};
+ghost use Rattle.filter_model.specs.Answers.{begins, first, first_difference as first_difference_of, point, ranged, tally as tally_of};
 ghost use Rattle.filter_model.specs.Keys.{IsKeyList};
 ghost use Rattle.filter_model.specs.Leaves.{Leaf as PlainLeaf, leaves_of};
 ghost use Rattle.filter_model.specs.Strings.{is_before};
@@ -78,6 +78,12 @@ pub trait RangeFilter: Sized + Drop {
         ensures added { OnOk result (IfSome (slice_get (leaf_list self.now) n)
             (λ l. out.new.items ≡ out.old.items ++ begins (real_bits self.now) l)) }
         ensures unchanged { OnErr result (out.new.items ≡ out.old.items) };
+
+    /// The least number, in key order from 0, at which the leaves of the two differ: by stub, end, hash bits or real bits,
+    /// or because one has no leaf more. `None` exactly where their leaves are the same; widths and cutoffs are not
+    /// looked at.
+    fn first_difference(&self, alloc: Global, other: &Self) -> Result<Option<u32>, AllocError>
+        ensures { IfOk result (λ n. n ≡ first_difference_of (leaf_list self.now) (leaf_list other.now)) };
 
     /// Appends the filter's spelling. Without memory `out` stays as it was.
     fn encode(&self, out: &mut Vec<u8>) -> Result<(), AllocError>

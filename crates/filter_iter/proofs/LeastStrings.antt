@@ -1,8 +1,8 @@
 -- The least string that fits the leaf of a number.
 use Rattle.std.proofs.Common.{◌≡◌, ℕ, ◌-◌, ◌*◌, ◌^◌, ◌<◌, ◌≤◌, Bool, true, false, cond, Option, List, [], ◌∷◌, ◌++◌, length, get_or, nat_lt, lt-ltb, refl, ap, subst, sym, ◌∙◌, arith}
-use Rattle.std.specs.Prelude.{IfSome, filter, slice_get}
-use Rattle.std.proofs.lemmas.Bool.{cond-false, cond-true}
-use Rattle.std.proofs.lemmas.List.{append-nil, get_or-map}
+use Rattle.std.specs.Prelude.{IfSome, ◌==◌, filter, map, slice_get}
+use Rattle.std.proofs.lemmas.Bool.{cond-false, cond-true, eq-eqb, ne_eqb}
+use Rattle.std.proofs.lemmas.List.{append-nil, get_or-map, get_or_push, length-append}
 use Rattle.std.proofs.lemmas.List.Elements.{filter-append}
 use Rattle.std.proofs.lemmas.Option.{slice_get-get_or}
 use Rattle.byte_fields.specs.Spelling.{IsBytes}
@@ -14,12 +14,14 @@ use Rattle.filter_iter.specs.Ways.{IsWayTo, letters_of, bytes_of_way}
 use Rattle.filter_iter.specs.declared.parts.Pass.{Pass}
 use Rattle.filter_model.proofs.Fronts.{IsBytes-tail}
 use Rattle.filter_model.specs.Answers.{begins}
+use Rattle.filter_model.specs.Image.{in_slots}
 use Rattle.filter_model.specs.Leaves.{Leaf}
+use Rattle.filter_model.specs.Nodes.{last_letter}
 use Rattle.filter_model.specs.Strings.{shortest}
 use Rattle.filter_model.specs.Trie.{END, path}
 use Rattle.filter_model.specs.Valid.{IsLeaf, IsLeafList}
 use Rattle.key_base.specs.Limits.{max_key_bytes}
-use Rattle.suffix_bits.specs.Slots.{Suffix}
+use Rattle.suffix_bits.specs.Slots.{Suffix, leaf_suffix}
 use Rattle.trie_laws.proofs.Paths.{any_leaf, path_high}
 use Rattle.trie_levels.proofs.Totals.{valid_lists_have_tries}
 
@@ -32,6 +34,13 @@ bytes_all (a ∷ x) w =
 end_none : (e : Bool) → filter (λ c. nat_lt c 256) (cond e (END ∷ []) []) ≡ []
 end_none true = refl
 end_none false = refl
+
+last_is : (stub : List ℕ) (ends : Bool) → IsBytes stub → (last_letter (stub ++ cond ends (END ∷ []) []) == END) ≡ ends
+last_is stub true w =
+    let many : length (stub ++ END ∷ []) - 1 ≡ length stub = omega (arith, length-append stub (END ∷ [])) in
+    eq-eqb (last_letter (stub ++ END ∷ [])) END (ap (λ (k : ℕ). get_or (stub ++ END ∷ []) k 0) many ∙ get_or_push stub END 0 (length stub) refl)
+last_is stub false w =
+    ap (λ (q : List ℕ). last_letter q == END) (append-nil stub) ∙ ne_eqb (last_letter stub) END (λ e. omega (arith, e, w (length stub - 1)))
 
 module _ (hash_bits n : ℕ) (ls : List Leaf) (valid : IsLeafList hash_bits n ls) (i slot : ℕ) (way : List Pass) (to : IsWayTo ls i slot way) where
   abbrev leaf : Leaf
@@ -68,6 +77,14 @@ module _ (hash_bits n : ℕ) (ls : List Leaf) (valid : IsLeafList hash_bits n ls
 
   pub own_count : (k : ℕ) → k ≡ length (bytes_of_way way) → IfSome (slice_get ls i) (λ o. k ≡ length o.stub)
   own_count k e = at_leaf (λ o. k ≡ length o.stub) (e ∙ ap (λ (s : List ℕ). length s) stub_is)
+
+  -- its last letter says whether the leaf ends
+  pub own_end : (b : Bool) → b ≡ (last_letter (letters_of way) == END) → IfSome (slice_get ls i) (λ o. b ≡ o.ends)
+  unfolding path
+  own_end b e = at_leaf (λ o. b ≡ o.ends) (e ∙ ap (λ (q : List ℕ). last_letter q == END) (sym own_path) ∙ last_is leaf.stub leaf.ends is_leaf.stub.bytes)
+
+  pub own_leaf_suffix : (s : Suffix) → s ≡ get_or (map leaf_suffix (in_slots ls)) slot (0, 0) → IfSome (slice_get ls i) (λ o. s ≡ leaf_suffix o)
+  own_leaf_suffix s e = at_leaf (λ o. s ≡ leaf_suffix o) (e ∙ own_suffix ls slot i (valid_lists_have_tries hash_bits n ls valid) to.slot_is.within to.within (own_path ∙ sym to.slot_is.is))
 
   -- a leaf that ends has no real bits
   tail_is : (ends : Bool) → leaf.ends ≡ ends → cond leaf.ends [] (shortest 4 (leaf.real * 2 ^ (32 - n))) ≡ shortest 4 (leaf.real * 2 ^ (32 - n))

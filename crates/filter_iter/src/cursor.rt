@@ -3,12 +3,13 @@ ghost use Rattle.std.specs.Prelude.{◌≡◌, ◌+◌, ◌-◌, ◌++◌, ◌<�
 ghost use Rattle.std.specs.Option.{option_map};
 ghost use Rattle.filter_model.specs.Answers.{begins, first};
 ghost use Rattle.key_base.specs.Limits.{max_key_bytes};
+ghost use Rattle.suffix_bits.specs.Slots.{leaf_suffix};
 
 use super::answers::seek;
 use super::following::go_to;
 use super::least::push_least;
 use super::parts::{Marks, Way};
-use super::stubs::{new_way, write_stub};
+use super::stubs::{new_way, way_ends, write_stub};
 use super::ways::{go_first, go_last, turn_before, turn_behind};
 use filter_trie::Trie;
 use smallvec::SmallVec;
@@ -126,6 +127,20 @@ impl<'a, A: Allocator, B: Allocator> FilterCursor<'a, A, B> {
         ensures count { IfSome (slice_get self.now.image.leaves self.now.leaf) (λ l. result ≡ length l.stub) }
     {
         write_stub(self.way.as_slice(), out)
+    }
+
+    /// Whether the leaf ends: its key is its stub, from which other keys go on.
+    pub fn ends(&self) -> bool
+        ensures { IfSome (slice_get self.now.image.leaves self.now.leaf) (λ l. result ≡ l.ends) }
+    {
+        way_ends(self.way.as_slice())
+    }
+
+    /// The leaf's hash bits and its real bits.
+    pub fn suffix(&self) -> (u32, u32)
+        ensures { IfSome (slice_get self.now.image.leaves self.now.leaf) (λ l. result ≡ leaf_suffix l) }
+    {
+        self.trie.suffix(self.slot)
     }
 
     /// Appends the least string that fits the leaf: what [`least_of`](super::least_of) says of its number, with no count, since

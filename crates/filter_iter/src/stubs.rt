@@ -1,6 +1,8 @@
 //! Ways as bytes.
-ghost use Rattle.std.specs.Prelude.{◌≡◌, ◌++◌, [], ◌≤◌, drop, length, IfOk};
-ghost use Rattle.filter_iter.specs.Ways.{bytes_of_way};
+ghost use Rattle.std.specs.Prelude.{◌≡◌, ◌==◌, ◌++◌, [], ◌≤◌, drop, length, IfOk};
+ghost use Rattle.filter_iter.specs.Ways.{bytes_of_way, letters_of};
+ghost use Rattle.filter_model.specs.Nodes.{last_letter};
+ghost use Rattle.filter_model.specs.Trie.{END};
 
 use super::parts::{END_LETTER, Pass, Way};
 use smallvec::SmallVec;
@@ -31,4 +33,11 @@ pub(crate) fn write_stub(way: &[Pass], out: &mut [u8]) -> usize
         }
     }
     count
+}
+
+/// Whether the last letter of a way is the one after a stub that ends.
+pub(crate) fn way_ends(way: &[Pass]) -> bool
+    ensures { result ≡ (last_letter (letters_of way.now) == END) }
+{
+    !way.is_empty() && way[way.len() - 1].letter == END_LETTER
 }

@@ -14,6 +14,7 @@ ghost use Rattle.plain_filter_model.specs.Spelling.{plain_spelling};
 
 use crate::answers::{any_fits, any_meets, count_meeting, first_from};
 use crate::decode::read_leaves;
+use crate::difference::first_difference;
 use crate::encode::{MAGIC, spelled};
 use crate::leaf::begins_with;
 use crate::valid::is_valid;
@@ -94,6 +95,10 @@ impl RangeFilter for PlainFilter {
             self.real_bits,
         )?;
         out.extend_from_slice(&least)
+    }
+
+    fn first_difference(&self, _alloc: Global, other: &Self) -> Result<Option<u32>, AllocError> {
+        Ok(first_difference(&self.leaves, &other.leaves))
     }
 
     fn encode(&self, out: &mut Vec<u8>) -> Result<(), AllocError> {

@@ -2,7 +2,7 @@
 ghost use Rattle.std.specs.Prelude.{◌≡◌, ◌==◌, ◌&&◌, ◌*◌, ◌-◌, ◌<◌, ◌≤◌, ◌^◌, length, IsTrue};
 ghost use Rattle.std.specs.Ordering.{nat_cmp};
 ghost use Rattle.key_base.specs.Limits.{max_real_bits};
-ghost use Rattle.filter_model.specs.Answers.{begins, fits, is_past, meets};
+ghost use Rattle.filter_model.specs.Answers.{begins, fits, is_past, is_same, meets};
 ghost use Rattle.filter_model.specs.Strings.{prefix_number, is_before, is_prefix, bytes_eq};
 ghost use Rattle.filter_api.specs.Seen.{seen};
 
@@ -100,4 +100,14 @@ pub(crate) fn begins_with(bytes: &[u8], stub: &[u8]) -> bool
     ensures bound { IsTrue result → length stub.now ≤ length bytes.now }
 {
     bytes.starts_with(stub)
+}
+
+/// Whether the two are one leaf, hash bits and real bits too.
+pub(crate) fn are_one_leaf(leaf: &Leaf, other: &Leaf) -> bool
+    ensures { result ≡ is_same (seen leaf.now) (seen other.now) }
+{
+    are_same(leaf.stub.as_slice(), other.stub.as_slice())
+        && leaf.ends == other.ends
+        && leaf.hash == other.hash
+        && leaf.real == other.real
 }

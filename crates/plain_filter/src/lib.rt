@@ -15,6 +15,7 @@
 
 mod answers;
 mod decode;
+mod difference;
 mod encode;
 mod filter;
 mod leaf;

@@ -1,6 +1,7 @@
 //! The interface of a filter, for the global allocator.
 
 use crate::building::trie_of_keys;
+use crate::difference::first_difference;
 use crate::filter::SurfFilter;
 use filter_api::{DecodeError, RangeFilter, Settings};
 use key_base::KeyList;
@@ -57,6 +58,10 @@ impl RangeFilter for SurfFilter<Global> {
 
     fn least_of(&self, n: u32, out: &mut Vec<u8>) -> Result<(), AllocError> {
         SurfFilter::least_of(self, n, out)
+    }
+
+    fn first_difference(&self, alloc: Global, other: &Self) -> Result<Option<u32>, AllocError> {
+        first_difference(&alloc, self.trie(), other.trie())
     }
 
     fn encode(&self, out: &mut Vec<u8>) -> Result<(), AllocError> {

@@ -21,6 +21,7 @@
 #![tactic(auto)]
 
 mod building;
+mod difference;
 mod filter;
 mod interface;
 mod point;
