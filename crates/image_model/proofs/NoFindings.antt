@@ -256,7 +256,7 @@ state_has_none spelling first_fault image slot other v s slots current is =
     subst (AreFindings spelling first_fault image) (ap (λ (o : Option Fault). ranges_findings slot o ++ []) ranges)
     (of_version slot other v [] [] slots current (rows_of_state spelling first_fault image v.rows s.tables named.tables) (spelled named.area s.log named.area_is named.log))
 
-of_state : (spelling : Spelling) (first_fault : Bytes → FilterFault) (image : Image) → (s : State) × IsStateOf spelling s image → AreFindings spelling first_fault image []
+pub of_state : (spelling : Spelling) (first_fault : Bytes → FilterFault) (image : Image) → (s : State) × IsStateOf spelling s image → AreFindings spelling first_fault image []
 of_state spelling first_fault image (s, (v, is)) = go is.version_is
   where
     go : IsVersionOf v image → AreFindings spelling first_fault image []

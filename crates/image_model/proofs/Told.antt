@@ -27,11 +27,11 @@ use Rattle.log_model.proofs.Ends.{not_both}
 use Rattle.manifest_model.specs.Slots.{AreSlots, IsCurrent, IsNoStore, IsVersionOf, body_room, slots_damage}
 use Rattle.manifest_model.specs.Tables.{ranges_fault}
 use Rattle.manifest_model.specs.Version.{Version, body_place, log_page_of, slot_a, slot_b}
-use Rattle.manifest_model.proofs.Versions.{found, in_use, no_damage, one_slot, one_version}
+use Rattle.manifest_model.proofs.Versions.{found, in_use, no_damage, no_store, none_open, one_slot, one_version}
 use Rattle.table_model.specs.Damage.{IsFilterDamage, IsOfBytes, IsSoundFilter, block_damage, block_part, index_damage, index_part, part_damage}
 use Rattle.table_model.proofs.Decided.{sound_or_damaged, window_bytes}
 use Rattle.table_model.proofs.Sound.{one_filter_damage, sound_filter_has_none}
-use Rattle.image_model.specs.Findings.{AreFindings, AtLeast, Before, BrokenRule, FilterFindings, Finding, FindingsAreTold, FirstDamageIsFound, IsBeyondOpening, LogFindings, OneListOfFindings, RowsFindings, WrongCount, WrongKeys, are_sound_blocks, block_at, block_findings, blocks_of_row, broken, compared, count_findings, damaged, finding, findings_at, findings_behind, findings_of_blocks, found_by, has_its_keys, index_findings, index_rows, known_behind, known_keys, leaf_findings, neighbours_fault, of_slots, of_version, ranges_findings, spelled, unknown, unless}
+use Rattle.image_model.specs.Findings.{AreFindings, AtLeast, Before, BrokenRule, FilterFindings, Finding, FindingsAreTold, FirstDamageIsFound, IsBeyondOpening, LogFindings, NoStoreHasNoFindings, OneListOfFindings, RowsFindings, WrongCount, WrongKeys, are_sound_blocks, block_at, block_findings, blocks_of_row, broken, compared, count_findings, damaged, finding, findings_at, findings_behind, findings_of_blocks, found_by, has_its_keys, index_findings, index_rows, known_behind, known_keys, leaf_findings, neighbours_fault, of_slots, of_version, ranges_findings, spelled, unknown, unless}
 use Rattle.image_model.specs.Opening.{FirstDamage, IsOpened, TablesBreak, VersionBreaks, at_a_table, at_the_log, at_the_ranges, at_the_slots, at_the_version, key_range_of}
 use Rattle.image_model.proofs.NoFindings.{indexes_of_opened, neighbours_are}
 use Rattle.image_model.proofs.Opened.{area_of, damage_or_none, log_ends}
@@ -139,6 +139,10 @@ module _ (spelling : Spelling) (first_fault : Bytes → FilterFault) (image : Im
 
 pub findings_are_told : FindingsAreTold
 findings_are_told spelling first_fault image decided bytes = image_told spelling first_fault image decided bytes
+
+pub no_store_has_no_findings : NoStoreHasNoFindings
+no_store_has_no_findings spelling first_fault image _ none (of_slots d is) = not_some d (slots_damage image) (none_open image none) is
+no_store_has_no_findings spelling first_fault image _ none (of_version slot other v of_rows of_log slots current rows log) = no_store v image none (in_use slot other v image slots current)
 
 -- ---- the first damage
 

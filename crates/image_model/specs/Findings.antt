@@ -87,7 +87,7 @@ abbrev pub findings_at : ℕ → Before → IndexRow → Option Damage → Image
 findings_at page before row (Some d) image = found_by (Some d)
 findings_at page before row None image = unless (has_its_keys before row (block_at page row image)) (finding part.Block (byte_of_page page) WrongKeys)
 
--- what is known behind it
+-- what is known after it
 abbrev pub known_behind : ℕ → IndexRow → Option Damage → Image → Before
 known_behind page row (Some d) image = Unknown
 known_behind page row None image = Behind (last_key (block_at page row image))
@@ -209,7 +209,7 @@ RowWithoutFindingIsTable =
     → index_findings row image ≡ [] → FilterFindings spelling first_fault row (known_keys row image) image []
     → IsTableAt spelling row (blocks_of_row row image) image
 
--- None is found exactly where the image stands for a state.
+-- None is found exactly where the image represents a state.
 abbrev pub NoFindingIsState : Type 0
 NoFindingIsState =
     (spelling : Spelling) (first_fault : Bytes → FilterFault) (image : Image) → IsOfBytes image
@@ -226,11 +226,17 @@ FindingsAreTold =
     (spelling : Spelling) (first_fault : Bytes → FilterFault) (image : Image) → IsDecided spelling → IsOfBytes image
     → IsNoStore image ⊎ ((findings : List Finding) × AreFindings spelling first_fault image findings)
 
+-- an image of which no slot is open has none, not even an empty one
+abbrev pub NoStoreHasNoFindings : Type 0
+NoStoreHasNoFindings =
+    (spelling : Spelling) (first_fault : Bytes → FilterFault) (image : Image) (findings : List Finding) → IsNoStore image
+    → AreFindings spelling first_fault image findings → ⊥
+
 -- what opening does not look for: what is wrong with a block, other entries than the row's, a leaf that differs
 abbrev pub IsBeyondOpening : Finding → Type 0
 IsBeyondOpening f = (f.part ≡ part.Block) ⊎ ((f.what ≡ WrongCount) ⊎ ((number : ℕ) × (f.what ≡ WrongLeaf number)))
 
--- The damage that opening finds first is among the findings, and before it stand only those that opening does not look for.
+-- The damage that opening finds first is among the findings, and before it are only those that opening does not look for.
 abbrev pub FirstDamageIsFound : Type 0
 FirstDamageIsFound =
     (spelling : Spelling) (first_fault : Bytes → FilterFault) (image : Image) (d : Damage) (findings : List Finding) → SpellsOne spelling

@@ -12,3 +12,4 @@ pub mod Installs
 pub mod Opening
 pub mod Sound
 pub mod Findings
+pub mod ExampleStores
