@@ -104,7 +104,8 @@ pub fn node_faults()
     ensures suffix_of_slot_2 { image_fault (with_bytes ((5, 8) ∷ (6, 4) ∷ (12, 4) ∷ (32, 5) ∷ (40, 0x30) ∷ (41, 0x31) ∷ (42, 0x61) ∷ (43, 0xFF) ∷ (44, 0x62) ∷ (45, 4) ∷ (46, 9) ∷ (51, 1) ∷ []) (a_ab_ac_with_real ++ 0 ∷ 0 ∷ 0 ∷ 0 ∷ [])) ≡ Some (fault 50 10) }
 {}
 
-/// Images of whole keys, which the rules of a filter's image refuse: one key of several bytes, and a leaf alone in its node.
+/// Images of whole keys, which the rules of a filter's image refuse: one key of several bytes, a leaf alone in its node,
+/// and the byte FF alone in its node.
 pub fn whole_images_are_read()
     ensures zebra_has_no_fault { whole_fault zebra_alone ≡ None }
     ensures zebra { image_in zebra_alone ≡ record { hash_bits = 0; real_bits = 0; cutoff = 0; leaves = plain (codes "zebra") ∷ [] } }
@@ -117,12 +118,19 @@ pub fn whole_images_are_read()
     ensures dense_ab { image_in (with_bytes ((12, 1) ∷ (168, 0) ∷ []) a_ab_dense)
         ≡ record { hash_bits = 0; real_bits = 0; cutoff = 2; leaves = plain (codes "ab") ∷ [] } }
     ensures a_filters_image { whole_fault a_ab_sparse ≡ None }
+    ensures lone_ff_has_no_fault { whole_fault (with_bytes ((41, 0xFF) ∷ []) ab_alone) ≡ None }
+    ensures lone_ff { image_in (with_bytes ((41, 0xFF) ∷ []) ab_alone)
+        ≡ record { hash_bits = 0; real_bits = 0; cutoff = 0; leaves = plain (0x61 ∷ 0xFF ∷ []) ∷ [] } }
+    ensures lone_ff_is_no_filter { image_fault (with_bytes ((41, 0xFF) ∷ []) ab_alone) ≡ Some (fault 40 9) }
 {}
 
 /// What the rules of whole keys refuse as those of a filter do, and bits of any width.
 pub fn whole_faults()
     ensures mark_alone { whole_fault (with_bytes ((52, 6) ∷ (84, 0) ∷ []) a_ab_dense) ≡ Some (fault 72 9) }
     ensures labels_fall { whole_fault (with_bytes ((41, 0x63) ∷ []) a_ab_sparse) ≡ Some (fault 41 9) }
+    ensures mark_at_the_root { whole_fault (with_bytes ((12, 3) ∷ (168, 3) ∷ []) a_ab_dense) ≡ Some (fault 40 9) }
+    ensures mark_at_a_sparse_root { whole_fault (with_bytes ((40, 0xFF) ∷ (41, 0x61) ∷ (43, 2) ∷ (44, 5) ∷ []) a_ab_sparse) ≡ Some (fault 40 9) }
+    ensures no_branch { whole_fault (with_bytes ((52, 14) ∷ (84, 0) ∷ (168, 0) ∷ []) a_ab_dense) ≡ Some (fault 72 9) }
     ensures hash_bits { whole_fault a_with_hash ≡ Some (fault 5 3) }
     ensures real_bits { whole_fault a_ab_ac_with_real ≡ Some (fault 6 3) }
 {}

@@ -13,8 +13,8 @@ pub(crate) const SPARSE: [u8; 45] = [
     0, 0, 0, 0, 3, 0, 0, 0, 0, 0, 0, 0, 0x61, 0xFF, 0x62, 1, 3,
 ];
 
-// The same with 8 real bits a leaf.
-const WITH_REAL: [u8; 47] = [
+/// The same with 8 real bits a leaf.
+pub(crate) const WITH_REAL: [u8; 47] = [
     0x53, 0x55, 0x52, 0x46, 1, 0, 8, 0, 0, 0, 2, 0, 2, 0, 0, 0, 0, 0, 0, 0, 0, 0, 0, 0, 2, 0, 0, 0,
     0, 0, 0, 0, 3, 0, 0, 0, 0, 0, 0, 0, 0x61, 0xFF, 0x62, 1, 3, 0, 0x63,
 ];
@@ -33,10 +33,11 @@ const DENSE_BYTES: [(usize, u8); 8] = [
     (168, 2),
 ];
 
-// Bytes that are changed, and the fault of the image then: its place and its rule.
-type Row = (&'static [(usize, u8)], u64, u8);
+/// Bytes that are changed, and the fault of the image then: its place and its rule.
+pub(crate) type Row = (&'static [(usize, u8)], u64, u8);
 
-const SPARSE_ROWS: [Row; 17] = [
+/// What breaks a rule of filters, and the same one of whole keys.
+pub(crate) const SPARSE_ROWS: [Row; 16] = [
     (&[(0, 0)], 0, 2),
     (&[(4, 2)], 4, 2),
     (&[(5, 0x21)], 5, 3),
@@ -52,25 +53,25 @@ const SPARSE_ROWS: [Row; 17] = [
     (&[(43, 3)], 8, 8),
     (&[(41, 0x62)], 41, 9),
     (&[(41, 0x63)], 41, 9),
-    // a leaf alone
-    (&[(41, 0x62), (42, 0x63), (44, 5)], 42, 9),
     // END at the root
     (&[(40, 0xFF), (41, 0x61), (43, 2), (44, 5)], 40, 9),
 ];
 
-const DENSE_ROWS: [Row; 9] = [
+/// The same with all levels dense.
+pub(crate) const DENSE_ROWS: [Row; 7] = [
     (&[(168, 0x82)], 168, 6),
     (&[(116, 6)], 116, 7),
     (&[(8, 1)], 8, 8),
-    // no branch, END alone, a leaf alone, and the first of two such nodes
+    // no branch, END alone, and a node to which no branch leads
     (&[(52, 0x0E), (84, 0), (168, 0)], 72, 9),
     (&[(52, 6), (84, 0)], 72, 9),
-    (&[(52, 6), (168, 0)], 72, 9),
     (&[(12, 3), (84, 0), (168, 3)], 8, 8),
-    // END at the root, and more than the root for one leaf
+    // END at the root
     (&[(12, 3), (168, 3)], 40, 9),
-    (&[(12, 1), (168, 0)], 40, 9),
 ];
+
+/// With real bits: a leaf that ends has some, and a branch that leads to a node is counted as a leaf.
+pub(crate) const REAL_ROWS: [Row; 2] = [(&[(45, 1)], 45, 10), (&[(43, 3)], 8, 8)];
 
 /// Changes the byte at a place.
 pub(crate) fn set_byte(bytes: &mut [u8], at: usize, value: u8) {
@@ -137,11 +138,9 @@ fn bytes_of_dense_levels_do(rt: HostRuntime) -> Result<(), Fail> {
     Ok(())
 }
 
-// A leaf that ends has real bits, and a branch that leads to a node is counted as a leaf.
 #[test]
 fn bytes_of_suffixes_do(rt: HostRuntime) -> Result<(), Fail> {
-    let rows: [Row; 2] = [(&[(45, 1)], 45, 10), (&[(43, 3)], 8, 8)];
-    check_rows(&rt, rt.alloc(), &WITH_REAL, &rows)?;
+    check_rows(&rt, rt.alloc(), &WITH_REAL, &REAL_ROWS)?;
     Ok(())
 }
 

@@ -70,3 +70,5 @@ mod tries;
 mod walks;
 #[cfg(test)]
 mod whole_images;
+#[cfg(test)]
+mod whole_ranges;

@@ -1,7 +1,9 @@
 //! Images of whole keys: what is read of them, what a filter's reader says of them, and bytes changed against a slow judge.
 
 use super::codec::{check_image, fault_of};
-use super::images::{SPARSE, changed, dense_image, set_byte};
+use super::images::{
+    DENSE_ROWS, REAL_ROWS, Row, SPARSE, SPARSE_ROWS, WITH_REAL, changed, dense_image, set_byte,
+};
 use super::judge::{Kind, judge};
 use super::keys::step;
 use super::tries::boxed;
@@ -15,44 +17,17 @@ use std::test::Fail;
 // How many values each byte is changed to.
 const VALUES: u64 = 8;
 
-// The key zebra alone.
-const ZEBRA: [u8; 47] = [
+/// The key zebra alone.
+pub(crate) const ZEBRA: [u8; 47] = [
     0x53, 0x55, 0x52, 0x46, 1, 0, 0, 0, 0, 0, 5, 0, 1, 0, 0, 0, 0, 0, 0, 0, 0, 0, 0, 0, 5, 0, 0, 0,
     0, 0, 0, 0, 5, 0, 0, 0, 0, 0, 0, 0, 0x7A, 0x65, 0x62, 0x72, 0x61, 0x0F, 0x1F,
 ];
 
-// Bytes that are changed, and the fault of the image then: its place and its rule.
-type Row = (&'static [(usize, u8)], u64, u8);
+// Of the sparse image: one bit of a width.
+const WIDTH_ROWS: [Row; 2] = [(&[(5, 1)], 5, 3), (&[(6, 1)], 6, 3)];
 
-// Of the image of a and ab with no suffixes: what a filter's reader refuses for the same reason.
-const SPARSE_ROWS: [Row; 12] = [
-    (&[(4, 2)], 4, 2),
-    (&[(5, 1)], 5, 3),
-    (&[(6, 1)], 6, 3),
-    (&[(10, 0)], 10, 4),
-    (&[(8, 3)], 8, 4),
-    (&[(12, 0)], 12, 4),
-    (&[(32, 4)], 45, 1),
-    (&[(32, 2)], 44, 5),
-    (&[(43, 9)], 43, 6),
-    (&[(43, 3)], 8, 8),
-    (&[(41, 0x63)], 41, 9),
-    // END at the root
-    (&[(40, 0xFF), (41, 0x61), (43, 2), (44, 5)], 40, 9),
-];
-
-// And with all levels dense.
-const DENSE_ROWS: [Row; 5] = [
-    (&[(168, 0x82)], 168, 6),
-    (&[(116, 6)], 116, 7),
-    // no branch, and END alone
-    (&[(52, 0x0E), (84, 0), (168, 0)], 72, 9),
-    (&[(52, 6), (84, 0)], 72, 9),
-    // END at the root
-    (&[(12, 3), (168, 3)], 40, 9),
-];
-
-fn read(alloc: Global, image: &[u8]) -> Result<Box<Trie<Global>>, DecodeError> {
+/// The trie of whole keys that an image spells.
+pub(crate) fn read_whole(alloc: Global, image: &[u8]) -> Result<Box<Trie<Global>>, DecodeError> {
     let trie = decode_whole(alloc, image)?;
     Ok(boxed(alloc, trie)?)
 }
@@ -63,7 +38,7 @@ fn whole_fault_of(
     alloc: Global,
     bytes: &[u8],
 ) -> Result<Option<FilterFault>, AllocError> {
-    match read(alloc, bytes) {
+    match read_whole(alloc, bytes) {
         Ok(trie) => {
             check_image(rt, alloc, &trie, bytes)?;
             Ok(None)
@@ -71,6 +46,18 @@ fn whole_fault_of(
         Err(DecodeError::Memory) => Err(AllocError),
         Err(DecodeError::Fault(fault)) => Ok(Some(fault)),
     }
+}
+
+fn check_fault(
+    rt: &impl Abort,
+    alloc: Global,
+    bytes: &[u8],
+    place: u64,
+    rule: u8,
+) -> Result<(), AllocError> {
+    let found = whole_fault_of(rt, alloc, bytes)?;
+    assert!(rt; found == Some(FilterFault { place, rule }));
+    Ok(())
 }
 
 fn check_rows(
@@ -81,14 +68,7 @@ fn check_rows(
 ) -> Result<(), AllocError> {
     for (changes, place, rule) in rows {
         let bytes = changed(alloc, image, *changes)?;
-        let found = whole_fault_of(rt, alloc, bytes.as_slice())?;
-        assert!(rt;
-            found
-                == Some(FilterFault {
-                    place: *place,
-                    rule: *rule
-                })
-        );
+        check_fault(rt, alloc, bytes.as_slice(), *place, *rule)?;
     }
     Ok(())
 }
@@ -96,8 +76,20 @@ fn check_rows(
 #[test]
 fn bytes_changed_break_a_rule_of_whole_keys(rt: HostRuntime) -> Result<(), Fail> {
     check_rows(&rt, rt.alloc(), &SPARSE, &SPARSE_ROWS)?;
+    check_rows(&rt, rt.alloc(), &SPARSE, &WIDTH_ROWS)?;
     let dense = dense_image(rt.alloc())?;
     check_rows(&rt, rt.alloc(), dense.as_slice(), &DENSE_ROWS)?;
+    Ok(())
+}
+
+// Whatever a filter's reader says of them.
+#[test]
+fn images_with_real_bits_are_none_of_whole_keys(rt: HostRuntime) -> Result<(), Fail> {
+    check_fault(&rt, rt.alloc(), &WITH_REAL, 6, 3)?;
+    for (changes, _, _) in &REAL_ROWS {
+        let bytes = changed(rt.alloc(), &WITH_REAL, *changes)?;
+        check_fault(&rt, rt.alloc(), bytes.as_slice(), 6, 3)?;
+    }
     Ok(())
 }
 
@@ -117,13 +109,26 @@ fn check_read(
     keys: &[&[u8]],
     other: &[u8],
 ) -> Result<(), Fail> {
-    let trie = read(alloc, image)?;
+    let trie = read_whole(alloc, image)?;
     check_walks(rt, &trie, keys, other);
     check_image(rt, alloc, &trie, image)?;
     Ok(())
 }
 
-// The same, and a filter's reader refuses it by rule 9 at a place.
+// The same, and a filter's reader reads it too.
+fn check_both(
+    rt: &impl Abort,
+    alloc: Global,
+    image: &[u8],
+    keys: &[&[u8]],
+    other: &[u8],
+) -> Result<(), Fail> {
+    let refused = fault_of(rt, alloc, image)?;
+    assert!(rt; refused.is_none());
+    check_read(rt, alloc, image, keys, other)
+}
+
+// The same, but a filter's reader refuses it by rule 9 at a place.
 fn check_whole(
     rt: &impl Abort,
     alloc: Global,
@@ -184,11 +189,116 @@ fn dense_levels_of_whole_keys_are_read(rt: HostRuntime) -> Result<(), Fail> {
 // A filter's image without suffix bits is one of whole keys too.
 #[test]
 fn images_of_filters_are_read(rt: HostRuntime) -> Result<(), Fail> {
-    check_read(&rt, rt.alloc(), &SPARSE, &[b"a", b"ab"], b"ac")?;
+    check_both(&rt, rt.alloc(), &SPARSE, &[b"a", b"ab"], b"ac")?;
     let dense = dense_image(rt.alloc())?;
-    check_read(&rt, rt.alloc(), dense.as_slice(), &[b"a", b"ab"], b"ac")?;
+    check_both(&rt, rt.alloc(), dense.as_slice(), &[b"a", b"ab"], b"ac")?;
     let aa_and_ab = changed(rt.alloc(), &SPARSE, &[(41, 0x61)])?;
-    check_read(&rt, rt.alloc(), aa_and_ab.as_slice(), &[b"aa", b"ab"], b"a")
+    check_both(&rt, rt.alloc(), aa_and_ab.as_slice(), &[b"aa", b"ab"], b"a")
+}
+
+// ---- the byte FF, which is END as the first of several labels
+
+// The sparse image with other numbers, and these bytes for its sections.
+fn with_sections(
+    alloc: Global,
+    changes: &[(usize, u8)],
+    sections: &[u8],
+) -> Result<Vec<u8>, AllocError> {
+    let mut bytes = changed(alloc, &SPARSE[..40], changes)?;
+    bytes.extend_from_slice(sections)?;
+    Ok(bytes)
+}
+
+#[test]
+fn a_lone_ff_is_a_byte(rt: HostRuntime) -> Result<(), Fail> {
+    let alone = with_sections(rt.alloc(), &[(12, 1), (32, 2)], &[0x61, 0xFF, 1, 3])?;
+    check_whole(&rt, rt.alloc(), alone.as_slice(), 40, &[b"a\xFF"], b"a")
+}
+
+#[test]
+fn an_ff_behind_end_is_a_byte(rt: HostRuntime) -> Result<(), Fail> {
+    let two = changed(rt.alloc(), &SPARSE, &[(40, 0xFF), (42, 0xFF)])?;
+    check_both(
+        &rt,
+        rt.alloc(),
+        two.as_slice(),
+        &[b"\xFF", b"\xFF\xFF"],
+        b"a",
+    )?;
+    let three = with_sections(
+        rt.alloc(),
+        &[(10, 3), (12, 3), (24, 3), (32, 5)],
+        &[0x61, 0xFF, 0xFF, 0xFF, 0xFF, 0x05, 0x0B],
+    )?;
+    let keys: [&[u8]; 3] = [b"a", b"a\xFF", b"a\xFF\xFF"];
+    check_both(&rt, rt.alloc(), three.as_slice(), &keys, b"b")
+}
+
+// ---- long keys
+
+// Adds the bytes of so many bits, the first ones set.
+fn push_ones(bytes: &mut Vec<u8>, ones: usize, bits: usize) -> Result<(), AllocError> {
+    for at in 0..bits.div_ceil(8) {
+        let whole = ones / 8;
+        let byte = if at < whole {
+            0xFF
+        } else if at == whole {
+            !(0xFF << (ones % 8) as u32)
+        } else {
+            0
+        };
+        bytes.push(byte)?;
+    }
+    Ok(())
+}
+
+// The image of a key of so many bytes a, without the one that is a byte shorter or with it.
+fn long_image(alloc: Global, len: u16, beside: bool) -> Result<Vec<u8>, AllocError> {
+    let labels = len.saturating_add(u16::from(beside));
+    let mut bytes = Vec::from_slice(alloc, &SPARSE[..10])?;
+    bytes.extend_from_slice(&len.to_le_bytes())?;
+    bytes.extend_from_slice(&(1 + u32::from(beside)).to_le_bytes())?;
+    bytes.extend_from_slice(&0u64.to_le_bytes())?;
+    bytes.extend_from_slice(&u64::from(len).to_le_bytes())?;
+    bytes.extend_from_slice(&u64::from(labels).to_le_bytes())?;
+    for _ in 1..len {
+        bytes.push(0x61)?;
+    }
+    if beside {
+        bytes.push(0xFF)?;
+    }
+    bytes.push(0x61)?;
+    push_ones(
+        &mut bytes,
+        usize::from(len.saturating_sub(1)),
+        usize::from(labels),
+    )?;
+    push_ones(&mut bytes, usize::from(len), usize::from(labels))?;
+    Ok(bytes)
+}
+
+#[test]
+fn the_longest_keys_are_read(rt: HostRuntime) -> Result<(), Fail> {
+    let key = [0x61; 1_024];
+    let both = long_image(rt.alloc(), 1_024, true)?;
+    assert!(&rt; both.len() == 1_323);
+    check_both(
+        &rt,
+        rt.alloc(),
+        both.as_slice(),
+        &[&key[..1_023], &key],
+        b"a",
+    )?;
+    let alone = long_image(rt.alloc(), 1_024, false)?;
+    assert!(&rt; alone.len() == 1_320);
+    check_whole(&rt, rt.alloc(), alone.as_slice(), 40, &[&key], b"a")
+}
+
+#[test]
+fn a_longer_key_is_none(rt: HostRuntime) -> Result<(), Fail> {
+    let longer = long_image(rt.alloc(), 1_025, false)?;
+    check_fault(&rt, rt.alloc(), longer.as_slice(), 10, 4)?;
+    Ok(())
 }
 
 // ---- bytes changed, by both kinds

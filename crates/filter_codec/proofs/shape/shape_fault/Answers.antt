@@ -11,4 +11,4 @@ returns-then-alone g c =
 pub returns-else-alone : goal.returns-else-alone
 returns-else-alone g c =
     let h = c.args.header.now in
-    c.shape_fault_by-2.ensures ∙ ap (λ (a : Bool). shape_rule h.height (leaves_under a h.leaves) (leaves_beside a h.leaves) c.args.packed.now.dense c.args.packed.now.sparse) (sym c.if-alone.false)
+    c.shape_fault_by-else-alone.ensures ∙ ap (λ (a : Bool). shape_rule h.height (leaves_under a h.leaves) (leaves_beside a h.leaves) c.args.packed.now.dense c.args.packed.now.sparse) (sym c.if-alone.false)
