@@ -21,6 +21,8 @@ mod cursors;
 #[cfg(test)]
 mod cutoffs;
 #[cfg(test)]
+mod differences;
+#[cfg(test)]
 mod examples;
 #[cfg(test)]
 mod filter_examples;
