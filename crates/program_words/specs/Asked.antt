@@ -123,7 +123,7 @@ abbrev pub IsKnown : Option (Text × List Row) → Type 0
 IsKnown None = ⊥
 IsKnown (Some found) = (found.0 ≡ codes "format") ⊎ (found.0 ≡ codes "serve") ⊎ (found.0 ≡ codes "load") ⊎ (found.0 ≡ codes "settings") ⊎ (found.0 ≡ codes "grow")
 
--- an answer without matches, by its kind
+-- an answer without matches, by its kind; a text that was asked for may have found no memory
 abbrev pub ComesOf : ErrorKind → Asked → Type 0
 ComesOf kind (asked.Format store) = ⊥
 ComesOf kind (asked.BadSettings field) = ⊥
@@ -133,4 +133,4 @@ ComesOf kind (asked.Settings settings) = ⊥
 ComesOf kind (asked.Grow pages) = ⊥
 ComesOf kind (asked.Help text) = is_request kind ≡ true
 ComesOf kind asked.Refused = (is_request kind ≡ false) × (kind ≢ OutOfMemory)
-ComesOf kind asked.Memory = Unit {0}
+ComesOf kind asked.Memory = (kind ≡ OutOfMemory) ⊎ (is_request kind ≡ true)

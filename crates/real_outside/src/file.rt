@@ -1,5 +1,5 @@
 //! The file at a path, and whole reads and writes of its ranges, over system calls that may be cut short or interrupted.
-ghost use Rattle.std.specs.Prelude.{◌+◌, ◌^◌, ◌≤◌, length, IfOk};
+ghost use Rattle.std.specs.Prelude.{◌+◌, ◌^◌, ◌≤◌, ◌<◌, length, IfOk};
 ghost use Rattle.real_outside.specs.Numbers.{IsNoStream};
 
 use std::fs::{self, File, OpenOptions, TryLockError};
@@ -102,13 +102,23 @@ pub fn write_all(file: &File, at: u64, from: &[u8]) -> io::Result<()>
         if done >= from.len() {
             return Ok(());
         }
-        let count = write_some(file, at + done as u64, &from[done..])?;
-        if count == 0 {
-            return Err(io::Error::from(ErrorKind::WriteZero));
-        }
-        done += count;
+        done = write_on(file, at, from, done)?;
     }
     Ok(())
+}
+
+// Goes on with the slice, of which so many bytes are written already: a call may write fewer than it was given. Answers how many are
+// written then.
+fn write_on(file: &File, at: u64, from: &[u8], done: usize) -> io::Result<usize>
+    requires room { at + length from.now ≤ 2 ^ 48 }
+    requires left { done < length from.now }
+    ensures { IfOk result (λ next. (done < next) × (next ≤ length from.now)) }
+{
+    let count = write_some(file, at + done as u64, &from[done..])?;
+    if count == 0 {
+        return Err(io::Error::from(ErrorKind::WriteZero));
+    }
+    Ok(done + count)
 }
 
 fn write_some(file: &File, at: u64, from: &[u8]) -> io::Result<usize>
