@@ -147,7 +147,7 @@ fn zebra_alone_is_read(rt: HostRuntime) -> Result<(), Fail> {
     check_whole(&rt, rt.alloc(), &ZEBRA, 40, &[b"zebra"], b"zebr")
 }
 
-// z stands in slot 0, before ab below it.
+// z has slot 0, before ab on the level below.
 #[test]
 fn a_leaf_alone_in_its_node_is_read(rt: HostRuntime) -> Result<(), Fail> {
     let ab_and_z = changed(rt.alloc(), &SPARSE, &[(41, 0x7A), (44, 5)])?;
@@ -216,7 +216,7 @@ fn a_lone_ff_is_a_byte(rt: HostRuntime) -> Result<(), Fail> {
 }
 
 #[test]
-fn an_ff_behind_end_is_a_byte(rt: HostRuntime) -> Result<(), Fail> {
+fn an_ff_after_end_is_a_byte(rt: HostRuntime) -> Result<(), Fail> {
     let two = changed(rt.alloc(), &SPARSE, &[(40, 0xFF), (42, 0xFF)])?;
     check_both(
         &rt,
