@@ -1,5 +1,5 @@
 -- The leaves of two tries, one after the other, and the leaf from which a cursor goes over all.
-use Rattle.std.proofs.Common.{◌≡◌, ◌≢◌, ◌⊎◌, ◌<◌, ◌≤◌, ◌+◌, ◌-◌, ◌/◌, ◌^◌, ℕ, zero, suc, Bool, true, false, cond, Option, Some, None, List, [], ◌∷◌, ◌++◌, length, take, drop, get_or, refl, ap, subst, sym, ◌∙◌, arith, inl, inr, nat_lt}
+use Rattle.std.proofs.Common.{◌≡◌, ◌≢◌, ◌<◌, ◌≤◌, ◌+◌, ℕ, zero, suc, Bool, true, false, cond, Option, Some, None, List, [], ◌∷◌, ◌++◌, length, take, drop, refl, ap, subst, sym, ◌∙◌, arith, inl, inr, nat_lt}
 use Rattle.std.specs.Prelude.{◌==◌, ◌&&◌, ◌||◌, ◌↔◌, IfSome, IsTrue, bytes_eq, min, not, slice_get}
 use Rattle.std.specs.List.{position_from}
 use Rattle.std.proofs.lemmas.Bool.{cases_Bool, cases_lt, cond-false, cond-true, le-ltb, not_from_false}
@@ -7,14 +7,13 @@ use Rattle.std.proofs.lemmas.List.{take_more_same}
 use Rattle.std.proofs.lemmas.Option.{slice_get-get_or, slice_get_past}
 use Rattle.std.proofs.Math.Nat.{min-eq_left, min-eq_right, min-le_left, min-le_right}
 use Rattle.std.proofs.Math.Seq.{drop-nil, take-append_seam, take-length}
-use native.Mathlib.Nat.{div-mul-le_self}
 use Rattle.filter_iter.specs.Cursors.{Standing, moved}
 use Rattle.filter_model.proofs.Differences.{first_at, no_difference}
-use Rattle.filter_model.proofs.Fits.{unit}
-use Rattle.filter_model.proofs.Fronts.{pow_pos, same-itself, same-true}
+use Rattle.filter_model.proofs.Fronts.{same-itself, same-true}
 use Rattle.filter_model.specs.Answers.{first, first_difference, is_past}
 use Rattle.filter_model.specs.Leaves.{Filter, Leaf}
 use Rattle.filter_model.specs.Strings.{bits, is_before, prefix_number}
+use Rattle.surf_filter.proofs.Points.{no_bits}
 use Rattle.trie_laws.proofs.Paths.{any_leaf}
 
 -- ---- no leaf is past the empty string
@@ -26,9 +25,6 @@ before_none (a ∷ x) = refl
 no_number : (n : ℕ) → prefix_number n [] ≡ 0
 no_number zero = refl
 no_number (suc n) = refl
-
-no_bits : (n : ℕ) → prefix_number 4 [] / unit n ≡ 0
-no_bits n = omega (arith, div-mul-le_self 0 (unit n), pow_pos 2 (32 - n) (omega arith))
 
 none_past : (n : ℕ) (l : Leaf) → is_past n [] l ≡ false
 none_past n l = elim (cases_Bool l.ends) [

@@ -50,7 +50,7 @@ drop_taken zero x = refl
 drop_taken (suc n) [] = refl
 drop_taken (suc n) (a ∷ x) = drop_taken n x
 
-no_bits : (n : ℕ) → prefix_number 4 [] / unit n ≡ 0
+pub no_bits : (n : ℕ) → prefix_number 4 [] / unit n ≡ 0
 no_bits n = omega (arith, div-mul-le_self 0 (unit n), pow_pos 2 (32 - n) (omega arith))
 
 -- ---- lists

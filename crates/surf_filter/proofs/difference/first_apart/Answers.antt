@@ -1,4 +1,4 @@
-use Rattle.std.proofs.Common.{◌≡◌, ◌∙◌, sym}
+use Rattle.std.proofs.Common.{◌∙◌, sym}
 use Rattle.std.proofs.lemmas.Bool.{false≢true}
 use Rattle.surf_filter.proofs.Differences.{alike_more, apart_at, both_end, goes_on, of_lists, one_ends}
 use Rattle.surf_filter.proofs.difference.first_apart.Goals as goal
