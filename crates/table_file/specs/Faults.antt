@@ -76,6 +76,18 @@ IsDamagedFilter spelling first row image table.Memory = Unit {0}
 IsDamagedFilter spelling first row image (table.Device cause) = ⊥
 IsDamagedFilter spelling first row image (table.Damaged d) = IsFilterDamage spelling (filter_fault_of first) row image d
 
+-- a damage is that of the index; the device may fail, and memory may be short
+abbrev pub IsIndexAnswer : Row → Image → TableFault → Type 0
+IsIndexAnswer row image table.Memory = Unit {0}
+IsIndexAnswer row image (table.Device cause) = Unit {0}
+IsIndexAnswer row image (table.Damaged d) = index_damage row image ≡ Some d
+
+-- that of the filter
+abbrev pub IsFilterAnswer : Spelling → (Bytes → Fault) → Row → Image → TableFault → Type 0
+IsFilterAnswer spelling first row image table.Memory = Unit {0}
+IsFilterAnswer spelling first row image (table.Device cause) = Unit {0}
+IsFilterAnswer spelling first row image (table.Damaged d) = IsFilterDamage spelling (filter_fault_of first) row image d
+
 -- a damage is that of the index, or where it has none, that of the filter
 abbrev pub IsDamagedTable : Spelling → (Bytes → Fault) → Row → Image → TableFault → Type 0
 IsDamagedTable spelling first row image table.Memory = Unit {0}
