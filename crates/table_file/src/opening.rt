@@ -10,7 +10,7 @@ ghost use Rattle.map_model.specs.SortedMap.{Bytes};
 ghost use Rattle.block_model.specs.IndexReading.{index_fault, index_in};
 ghost use Rattle.block_model.specs.Places.{FitsDevice, byte_of_page, end_page, filter_page, index_page};
 ghost use Rattle.table_model.specs.Damage.{HasWidths, filter_part, part_damage};
-ghost use Rattle.table_file.specs.Faults.{HasOpenCause, HasReadCause, IsDamage, IsDamagedFilter, IsDamagedTable, IsFilterAnswer, IsIndexAnswer, IsNoDamage, IsNoDevice, IsOtherSum};
+ghost use Rattle.table_file.specs.Faults.{HasOpenCause, HasReadCause, IsDamage, IsDamageOf, IsDamagedFilter, IsDamagedTable, IsFilterAnswer, IsIndexAnswer, IsNoDamage, IsNoDevice, IsOtherSum};
 ghost use Rattle.table_file.specs.Opened.{IsOpen, IsReadFilter, IsReadIndex};
 
 use crate::fault::TableFault;
@@ -66,6 +66,7 @@ pub fn read_index<D: Disk>(alloc: Global, disk: &mut D, row: &Row) -> Result<Ind
     requires { FitsDevice row.now }
     ensures row { IfOk result (λ x. x.row ≡ row.now) }
     ensures answer { IsTrue D.tells → MatchResult result (IsReadIndex row.now (D.world disk.old).seen.held) (IsIndexAnswer row.now (D.world disk.old).seen.held) }
+    ensures part { IfErr result (IsDamageOf Part.Index (byte_of_page (index_page row.now)) row.now.index_sum) }
     ensures cause { IfErr result (HasReadCause (byte_of_page (index_page row.now)) (D.world disk.old) (D.world disk.new)) }
     ensures moves { ReadMoves 1 (D.world disk.old) (D.world disk.new) }
 {
@@ -92,6 +93,7 @@ pub fn read_filter<F: RangeFilter, D: Disk>(
     ensures many { IfOk result (λ f. length (F.leaf_list f) ≡ row.now.entries) }
     ensures wide { IfOk result (λ f. HasWidths row.now (F.hash_bits f) (F.real_bits f)) }
     ensures range { IfOk result (λ _. IsRowInRange row.now) }
+    ensures part { IfErr result (IsDamageOf Part.Filter (byte_of_page (filter_page row.now)) row.now.filter_sum) }
     ensures cause { IfErr result (HasReadCause (byte_of_page (filter_page row.now)) (D.world disk.old) (D.world disk.new)) }
     ensures moves { ReadMoves 1 (D.world disk.old) (D.world disk.new) }
 {
@@ -169,6 +171,7 @@ fn judged_index(alloc: Global, row: &Row, bytes: &[u8]) -> Result<BlockIndex, Ta
     requires fits { FitsDevice row.now }
     requires size { length bytes.now ≡ row.now.index_len }
     ensures damaged { IfErr result (IsDamage (part_damage Part.Index (byte_of_page (index_page row.now)) row.now.index_sum bytes.now (index_fault row.now.data_pages bytes.now))) }
+    ensures part { IfErr result (IsDamageOf Part.Index (byte_of_page (index_page row.now)) row.now.index_sum) }
     ensures sum { IfOk result (λ _. row.now.index_sum ≡ fnv_of bytes.now) }
     ensures kept { IfOk result (λ _. index_fault row.now.data_pages bytes.now ≡ None) }
     ensures index { IfOk result (λ x. x ≡ index_in bytes.now) }
@@ -191,6 +194,7 @@ fn judged_filter<F: RangeFilter>(alloc: Global, row: &Row, bytes: &[u8]) -> Resu
     requires fits { FitsDevice row.now }
     requires size { length bytes.now ≡ row.now.filter_len }
     ensures damaged { (image : Image) → filter_part row.now image ≡ bytes.now → IfErr result (IsDamagedFilter F.spelling F.first_fault row.now image) }
+    ensures part { IfErr result (IsDamageOf Part.Filter (byte_of_page (filter_page row.now)) row.now.filter_sum) }
     ensures cause { IfErr result IsNoDevice }
     ensures sum { IfOk result (λ _. row.now.filter_sum ≡ fnv_of bytes.now) }
     ensures filter { IfOk result (λ f. IsSpelling F.spelling (F.hash_bits f) (F.real_bits f) (F.cutoff f) (F.leaf_list f) bytes.now) }
