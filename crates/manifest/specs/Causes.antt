@@ -61,15 +61,24 @@ abbrev pub IsBodyFault : ℕ → DiskFault → Type 0
 IsBodyFault slot cause = IsFaultOf Read (body_place slot) cause ⊎ IsFaultOf Read (body_place slot + 64) cause
 
 -- the device fails at one of these, and only where the count of failed reads rose
+abbrev pub HasBodyCause : ℕ → World → World → ManifestFault → Type 0
+HasBodyCause slot old new fault.Memory = Unit {0}
+HasBodyCause slot old new (fault.Device cause) = IsBodyFault slot cause × Rose old.seen.read_faults new.seen.read_faults
+HasBodyCause slot old new fault.NotAStore = ⊥
+HasBodyCause slot old new fault.AlreadyAStore = ⊥
+HasBodyCause slot old new fault.Epoch = ⊥
+HasBodyCause slot old new (fault.Damaged damage) = Unit {0}
+
+-- or at the gate of the slot
 abbrev pub HasSlotCause : ℕ → World → World → ManifestFault → Type 0
 HasSlotCause slot old new fault.Memory = Unit {0}
-HasSlotCause slot old new (fault.Device cause) = IsBodyFault slot cause × Rose old.seen.read_faults new.seen.read_faults
+HasSlotCause slot old new (fault.Device cause) = (IsFaultOf Read slot cause ⊎ IsBodyFault slot cause) × Rose old.seen.read_faults new.seen.read_faults
 HasSlotCause slot old new fault.NotAStore = ⊥
 HasSlotCause slot old new fault.AlreadyAStore = ⊥
 HasSlotCause slot old new fault.Epoch = ⊥
 HasSlotCause slot old new (fault.Damaged damage) = Unit {0}
 
--- or at a gate
+-- or at a gate, or in the body of either slot
 abbrev pub HasLoadCause : World → World → ManifestFault → Type 0
 HasLoadCause old new fault.Memory = Unit {0}
 HasLoadCause old new (fault.Device cause) = (IsGateFault cause ⊎ IsBodyFault slot_a cause ⊎ IsBodyFault slot_b cause) × Rose old.seen.read_faults new.seen.read_faults

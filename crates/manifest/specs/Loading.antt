@@ -1,12 +1,13 @@
 -- What loading answers of an image.
-use Rattle.std.specs.Prelude.{◌≡◌, ◌≤◌, ℕ, Bool, true, false, Some}
+use Rattle.std.specs.Prelude.{◌≡◌, ◌≢◌, ◌≤◌, ℕ, false, Option, None, Some}
 use Rattle.byte_fields.specs.declared.parts.Damage.{Damage}
 use Rattle.byte_fields.specs.Faults.{fault as rule_at}
 use Rattle.disk_trait.specs.Image.{Image, Shows}
 use Rattle.manifest_model.specs.Laws.{IsVersion}
-use Rattle.manifest_model.specs.Slots.{IsGate, IsNoStore, slots_damage}
-use Rattle.manifest_model.specs.Version.{MaySpell, Version, body_bytes, body_place, slot_a, slot_b}
-use Rattle.manifest.specs.Manifest.{Manifest, StandsInSlot, other_place, place_of}
+use Rattle.manifest_model.specs.Slots.{HoldsVersion, IsNoStore, body_in, slot_damage, slots_damage}
+use Rattle.manifest_model.specs.Reading.{version_in}
+use Rattle.manifest_model.specs.Version.{MaySpell, Version, body_bytes, body_place, slot_b}
+use Rattle.manifest.specs.Manifest.{Manifest, StandsInSlot}
 use Rattle.manifest.specs.Reading.{shape_of}
 use Rattle.manifest.specs.declared.fault.ManifestFault.{ManifestFault}
 use Rattle.manifest.specs.declared.fault.ManifestFault.TheVariants as fault
@@ -45,22 +46,27 @@ IsNoStoreAnswer (fault.Damaged damage) = ⊥
 
 -- ---- steps
 
--- the gates read 1 where they are said to
-pub record AreGates (a_open b_open : Bool) (image : Image) : Type 0 where
-  pub a : IsGate a_open (image slot_a)
-  pub b : IsGate b_open (image slot_b)
-
--- a slot is open, and the other one is not
-pub record IsAlone (slot : ℕ) (image : Image) : Type 0 where
-  pub opened : IsGate true (image (place_of slot))
-  pub closed : IsGate false (image (other_place slot))
-
 -- the body of a sound version stands in a slot, in a format that can spell it
 pub record IsVersionAt (slot : ℕ) (v : Version) (image : Image) : Type 0 where
   pub sound : IsVersion v
   pub format : ℕ
   pub may : MaySpell format v
   pub body : Shows (body_place slot) (body_bytes format v) image
+
+-- an open slot without damage, and the version that is read from it
+pub record IsFoundIn (slot : ℕ) (v : Version) (image : Image) : Type 0 where
+  pub holds : HoldsVersion slot v image
+  pub none : slot_damage slot image ≡ None
+  pub read : version_in (body_in slot image) ≡ v
+
+-- what is answered of a slot: none exactly where its gate reads other than 1
+abbrev pub IsSlotAnswer : ℕ → Image → Option Manifest → Type 0
+IsSlotAnswer slot image None = image slot ≢ 1
+IsSlotAnswer slot image (Some found) = IsFoundIn slot found.version image
+
+-- a version that is read from a slot alone: of the other one nothing is known
+abbrev pub IsOfSlot : ℕ → Manifest → Type 0
+IsOfSlot slot found = (found.slot ≡ slot) × (found.other_open ≡ false)
 
 -- two slots of one epoch
 abbrev pub one_epoch : Damage

@@ -6,9 +6,9 @@
 //! written, its gate is opened. So every image that a crash may leave has the old version or the new one, and nothing
 //! outside that slot has changed. [`format`] writes the first version into slot A, and [`is_store`] looks whether there is
 //! one. [`load`] reads what stands: it answers a version exactly where every open slot keeps the rules, else the first rule
-//! that is broken and the byte of the device, and trusts no length before its rule was tried. A body has one of two formats,
-//! in each slot its own: in format 1 a table has the settings of the head, in format 2 its own. Both are read, and format 2
-//! is written.
+//! that is broken and the byte of the device, and trusts no length before its rule was tried. [`read_slot`] does so of one slot
+//! alone. A body has one of two formats, in each slot its own: in format 1 a table has the settings of the head, in format 2
+//! its own. Both are read, and format 2 is written.
 //!
 //! An install takes memory for one body, writes it in one write, and reads nothing. A load makes at most six reads; rows are
 //! judged in one pass, and whether two tables meet is found by the order of their pages. What stands in the pages of tables,
@@ -37,7 +37,7 @@ mod writing;
 pub use fault::ManifestFault;
 pub use formatting::{format, is_store};
 pub use installing::install;
-pub use loading::load;
+pub use loading::{load, read_slot};
 pub use slots::BODY_AT;
 pub use version::Version;
 pub use writing::{HEAD_BYTES, ROW_BYTES};

@@ -1,5 +1,5 @@
 //! What the bytes of a body say.
-ghost use Rattle.std.specs.Prelude.{◌≡◌, ◌≤◌, ◌<◌, ◌+◌, ◌*◌, ◌^◌, ◌||◌, ◌∷◌, List, map, length, drop, slice_index, None, Some, ◌≢◌, ◌⊎◌, IfOk, IfErr, IfSome, IfNone, OnOk};
+ghost use Rattle.std.specs.Prelude.{◌≡◌, ◌≤◌, ◌<◌, ◌+◌, ◌*◌, ◌^◌, ◌||◌, ◌∷◌, List, map, length, drop, slice_index, false, None, Some, ◌≢◌, ◌⊎◌, IfOk, IfErr, IfSome, IfNone, OnOk};
 ghost use Rattle.std.specs.Option.{option_or};
 ghost use Rattle.std.specs.List.{list_any};
 ghost use Rattle.std.specs.List.Sorted.{IsPermutation};
@@ -187,13 +187,13 @@ fn area_of(first_page: u32) -> u8
     if first_page == LOG_PAGES { 0 } else { 1 }
 }
 
-// The version that a body says whose log area keeps its rule.
+// The version that a body says whose log area keeps its rule. Of the other slot nothing is known.
 #[tactic(auto, unfolding(manifest_model::specs::Reading::version_in))]
-fn version_of(slot: u8, other_open: bool, body: &[u8], rows: Vec<Row>) -> Version
+fn version_of(slot: u8, body: &[u8], rows: Vec<Row>) -> Version
     requires long { 64 ≤ length body.now }
     requires log_area { log_area_fault body.now ≡ None }
     requires rows { rows.items ≡ table_rows_in (body_format body.now) (head_settings body.now) (table_count_in body.now) (drop 64 body.now) }
-    ensures { result ≡ record { version = version_in body.now; slot = slot; other_open = other_open } }
+    ensures { result ≡ record { version = version_in body.now; slot = slot; other_open = false } }
 {
     Version {
         settings: settings_in(body),
@@ -201,23 +201,18 @@ fn version_of(slot: u8, other_open: bool, body: &[u8], rows: Vec<Row>) -> Versio
         epoch: get_u64(body, 8),
         log_area: area_of(get_u32(body, 24)),
         slot,
-        other_open,
+        other_open: false,
         rows,
     }
 }
 
 /// The version that the body of a slot spells, whose head keeps rules 1 to 3; else what is wrong with it.
-pub(crate) fn read_body(
-    alloc: Global,
-    slot: u8,
-    other_open: bool,
-    body: &[u8],
-) -> Result<Version, ManifestFault>
+pub(crate) fn read_body(alloc: Global, slot: u8, body: &[u8]) -> Result<Version, ManifestFault>
     requires slot { slot ≤ 1 }
     requires head { early_fault body.now ≡ None }
     requires few { table_count_in body.now ≤ max_tables }
     requires long { length body.now ≡ 72 + 64 * table_count_in body.now }
-    ensures version { IfOk result (λ v. v ≡ record { version = version_in body.now; slot = slot; other_open = other_open }) }
+    ensures version { IfOk result (λ v. v ≡ record { version = version_in body.now; slot = slot; other_open = false }) }
     ensures sound { OnOk result (IsSpelled body.now) }
     ensures damage { IfErr result (IsBodyDamage (body_damage (place_of slot) body.now)) }
 {
@@ -234,5 +229,5 @@ pub(crate) fn read_body(
     if let Some(broken) = first_of(settings_rules(&rows), log_area) {
         return Err(shape(slot, broken));
     }
-    Ok(version_of(slot, other_open, body, rows))
+    Ok(version_of(slot, body, rows))
 }

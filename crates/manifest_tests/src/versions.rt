@@ -1,11 +1,13 @@
 //! Versions that are formatted, loaded and installed.
+ghost use Rattle.std.specs.Prelude.{◌≤◌};
+
 use crate::disks::{
     base, formatted, install_again, install_tables, loaded_with, new_disk, store, table, version_of,
 };
-use byte_fields::Row;
+use byte_fields::{Damage, Part, Row};
 use disk_mem::MemDisk;
 use disk_trait::Disk;
-use manifest::{ManifestFault, Version, format, is_store, load};
+use manifest::{ManifestFault, Version, format, is_store, load, read_slot};
 use std::alloc::Global;
 use std::test::Fail;
 
@@ -46,6 +48,41 @@ fn a_new_store_is_in_slot_a(rt: HostRuntime) -> Result<(), Fail> {
         format(alloc, &mut *disk, base(), 512),
         Err(ManifestFault::AlreadyAStore)
     );
+    Ok(())
+}
+
+// What a slot says by itself: its epoch, which slot it is, and whether the other one is open.
+fn alone(
+    alloc: Global,
+    disk: &mut MemDisk,
+    slot: u8,
+) -> Result<Option<(u64, u8, bool)>, ManifestFault>
+    requires { slot ≤ 1 }
+{
+    let found = read_slot(alloc, disk, slot)?;
+    Ok(found.map(|version| (version.epoch, version.slot, version.other_open)))
+}
+
+#[test]
+fn a_slot_is_read_by_itself(rt: HostRuntime) -> Result<(), Fail> {
+    let alloc = rt.alloc();
+    let mut disk = formatted(alloc)?;
+    assert_eq!(rt; alone(alloc, &mut disk, 0), Ok(Some((1, 0, false))));
+    assert_eq!(rt; alone(alloc, &mut disk, 1), Ok(None));
+    assert_eq!(rt; install_again(alloc, &mut disk), Ok(()));
+    assert_eq!(rt; alone(alloc, &mut disk, 0), Ok(Some((1, 0, false))));
+    assert_eq!(rt; alone(alloc, &mut disk, 1), Ok(Some((2, 1, false))));
+    assert!(rt; disk.write(12, &[9]).is_ok());
+    let damage = Damage::Shape {
+        part: Part::Manifest,
+        at: 12,
+        rule: 2,
+    };
+    assert_eq!(rt;
+        alone(alloc, &mut disk, 0),
+        Err(ManifestFault::Damaged(damage))
+    );
+    assert_eq!(rt; alone(alloc, &mut disk, 1), Ok(Some((2, 1, false))));
     Ok(())
 }
 

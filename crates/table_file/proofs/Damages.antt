@@ -1,8 +1,7 @@
 -- What damage a fault of opening says.
-use Rattle.std.proofs.Common.{◌≡◌, ◌≢◌, ◌+◌, ℕ, List, length, sym, ap, ap₂, ◌∙◌, subst, inr}
-use Rattle.std.specs.Prelude.{◌==◌, Some, None}
-use Rattle.std.specs.Option.{option_map}
-use Rattle.std.proofs.lemmas.Bool.{cond-true, eq-eqb, eqb-true}
+use Rattle.std.proofs.Common.{◌≡◌, ◌≢◌, ◌+◌, ℕ, List, length, sym, ap, ap₂, ◌∙◌, refl, subst}
+use Rattle.std.specs.Prelude.{None, Result, Ok, Err, IfOk, IfErr, MatchResult}
+use Rattle.std.proofs.lemmas.Bool.{eqb-true}
 use Rattle.byte_fields.specs.Faults.{Fault, fault}
 use Rattle.byte_fields.specs.Sums.{fnv_of}
 use Rattle.byte_fields.specs.declared.parts.Damage.{Damage}
@@ -10,18 +9,17 @@ use Rattle.byte_fields.specs.declared.parts.Damage.TheVariants as damage
 use Rattle.byte_fields.specs.declared.parts.Part.TheVariants as part
 use Rattle.byte_fields.specs.declared.parts.Row.{Row}
 use Rattle.disk_trait.specs.Image.{Image}
-use Rattle.disk_trait.specs.World.{World}
 use Rattle.filter_api.specs.Spellings.{IsNoSpelling, IsSpelling, Spelling}
 use Rattle.filter_api.specs.declared.errors.FilterFault.{FilterFault}
-use Rattle.filter_api.specs.declared.settings.Settings.{Settings}
-use Rattle.filter_model.specs.Leaves.{Leaf}
+use Rattle.filter_model.specs.Leaves.{Filter, Leaf}
 use Rattle.map_model.specs.SortedMap.{Bytes}
 use Rattle.block_model.specs.Index.{row_pages}
 use Rattle.block_model.specs.IndexReading.{index_fault, index_in, pages_fault}
-use Rattle.block_model.specs.Places.{byte_of_page, filter_page, index_page}
+use Rattle.block_model.specs.Places.{byte_of_page, filter_page}
 use Rattle.block_model.proofs.Refusals.{kept, neither, not_false}
-use Rattle.table_model.specs.Damage.{HasWidths, IsFilterDamage, filter_part, index_damage, index_part, no_spelling, other_leaves, other_sum, other_widths, part_damage}
-use Rattle.table_file.specs.Faults.{HasOpenCause, IsDamagedFilter, IsDamagedTable, IsNoDevice, IsOtherSum, filter_fault_of}
+use Rattle.table_model.specs.Damage.{HasWidths, IsFilterDamage, filter_part, no_spelling, other_leaves, other_sum, other_widths}
+use Rattle.table_file.specs.Faults.{IsDamagedFilter, IsFilterAnswer, IsOtherSum, filter_fault_of}
+use Rattle.table_file.specs.Opened.{IsReadFilter}
 use Rattle.table_file.specs.declared.fault.TableFault.{TableFault}
 use Rattle.table_file.specs.declared.fault.TableFault.TheVariants as table
 
@@ -68,28 +66,38 @@ module _ (spelling : Spelling) (first : Bytes → Fault) (row : Row) (image : Im
         subst (IsDamagedFilter spelling first row image) (sym t_is)
         (subst (λ (d : Damage). IsFilterDamage spelling (filter_fault_of first) row image d) (ap (λ (n : ℕ). damage.Shape part.Filter (n + 5) 12) (sym at_is)) here)
 
--- an index with the kept sum that breaks no rule
-pub index_none : (row : Row) (image : Image) (bytes : Bytes) → index_part row image ≡ bytes → row.index_sum ≡ fnv_of bytes → index_fault row.data_pages bytes ≡ None → index_damage row image ≡ None
-index_none row image bytes is same none =
-    let at = byte_of_page (index_page row) in
-    ap (λ (b : Bytes). part_damage part.Index at row.index_sum b (index_fault row.data_pages b)) is
-    ∙ cond-true (row.index_sum == fnv_of bytes) (option_map (λ (f : Fault). damage.Shape part.Index (at + f.place) f.rule) (index_fault row.data_pages bytes)) (Some (damage.Sum part.Index at row.index_sum (fnv_of bytes)))
-    (eq-eqb row.index_sum (fnv_of bytes) same)
-    ∙ ap (option_map (λ (f : Fault). damage.Shape part.Index (at + f.place) f.rule)) none
+-- what a read of the filter answers
+module _ (spelling : Spelling) (first : Bytes → Fault) (row : Row) (image : Image) where
+  filter_answer : (t : TableFault) → IsDamagedFilter spelling first row image t → IsFilterAnswer spelling first row image t
+  filter_answer table.Memory is = tt
+  filter_answer (table.Device cause) is = tt
+  filter_answer (table.Damaged d) is = is
 
-pub filter_damaged : (spelling : Spelling) (first : Bytes → Fault) (row : Row) (image : Image) (t : TableFault) → index_damage row image ≡ None
-    → IsDamagedFilter spelling first row image t → IsDamagedTable spelling first row image t
-filter_damaged spelling first row image table.Memory none is = tt
-filter_damaged spelling first row image (table.Device cause) none is = absurd is
-filter_damaged spelling first row image (table.Damaged d) none is = inr (none, is)
+  filter_read : (f : Filter) (bytes : Bytes) → filter_part row image ≡ bytes → row.filter_sum ≡ fnv_of bytes → IsSpelling spelling f.hash_bits f.real_bits f.cutoff f.leaves bytes
+      → length f.leaves ≡ row.entries → HasWidths row f.hash_bits f.real_bits → IsReadFilter spelling row image f
+  filter_read f bytes is sum spelled many wide =
+      let here : IsSpelling spelling f.hash_bits f.real_bits f.cutoff f.leaves (filter_part row image) = subst (IsSpelling spelling f.hash_bits f.real_bits f.cutoff f.leaves) (sym is) spelled in
+      record {
+        sound = record {
+          sum = sum ∙ ap fnv_of (sym is);
+          cutoff = f.cutoff;
+          leaves = f.leaves;
+          spelled = subst (λ (n : ℕ). IsSpelling spelling n row.real_bits f.cutoff f.leaves (filter_part row image)) wide.hash
+              (subst (λ (n : ℕ). IsSpelling spelling f.hash_bits n f.cutoff f.leaves (filter_part row image)) wide.real here);
+          many = many;
+        };
+        leaves_are = refl;
+        filter_is = here;
+      }
+
+  pub filter_result : {A : Type 0} (seen : A → Filter) (result : Result A TableFault) (bytes : Bytes) → filter_part row image ≡ bytes → IfErr result (IsDamagedFilter spelling first row image)
+      → IfOk result (λ _. row.filter_sum ≡ fnv_of bytes) → IfOk result (λ f. IsSpelling spelling (seen f).hash_bits (seen f).real_bits (seen f).cutoff (seen f).leaves bytes)
+      → IfOk result (λ f. length (seen f).leaves ≡ row.entries) → IfOk result (λ f. HasWidths row (seen f).hash_bits (seen f).real_bits)
+      → MatchResult result (λ f. IsReadFilter spelling row image (seen f)) (IsFilterAnswer spelling first row image)
+  filter_result seen (Ok f) bytes is damaged sum spelled many wide = filter_read (seen f) bytes is sum spelled many wide
+  filter_result seen (Err t) bytes is damaged sum spelled many wide = filter_answer t damaged
 
 -- the blocks of an index have as many pages as the table
 pub pages_kept : (pages : ℕ) (bytes : Bytes) → index_fault pages bytes ≡ None → row_pages (index_in bytes).rows ≡ pages
 unfolding index_fault pages_fault
 pages_kept pages bytes none = eqb-true _ _ (not_false _ (kept _ _ _ _ (neither _ _ (neither _ _ none).1).1).0)
-
--- a fault that is not the device's has this cause
-pub no_device : (row : Row) (old new : World) (t : TableFault) → IsNoDevice t → HasOpenCause row old new t
-no_device row old new table.Memory is = tt
-no_device row old new (table.Device cause) is = absurd is
-no_device row old new (table.Damaged d) is = tt

@@ -76,6 +76,26 @@ IsDamagedFilter spelling first row image table.Memory = Unit {0}
 IsDamagedFilter spelling first row image (table.Device cause) = ⊥
 IsDamagedFilter spelling first row image (table.Damaged d) = IsFilterDamage spelling (filter_fault_of first) row image d
 
+-- Over any device: a damage is of this part; a sum is another one than the kept one, and a rule is broken at a byte of the part
+-- or after it.
+abbrev pub IsDamageOf : Part → ℕ → ℕ → TableFault → Type 0
+IsDamageOf which at kept table.Memory = Unit {0}
+IsDamageOf which at kept (table.Device cause) = Unit {0}
+IsDamageOf which at kept (table.Damaged (damage.Sum part_is place kept_is seen)) = (part_is ≡ which) × (place ≡ at) × (kept_is ≡ kept) × (kept ≢ seen)
+IsDamageOf which at kept (table.Damaged (damage.Shape part_is place rule)) = (part_is ≡ which) × (at ≤ place)
+
+-- a damage is that of the index; the device may fail, and memory may be short
+abbrev pub IsIndexAnswer : Row → Image → TableFault → Type 0
+IsIndexAnswer row image table.Memory = Unit {0}
+IsIndexAnswer row image (table.Device cause) = Unit {0}
+IsIndexAnswer row image (table.Damaged d) = index_damage row image ≡ Some d
+
+-- that of the filter
+abbrev pub IsFilterAnswer : Spelling → (Bytes → Fault) → Row → Image → TableFault → Type 0
+IsFilterAnswer spelling first row image table.Memory = Unit {0}
+IsFilterAnswer spelling first row image (table.Device cause) = Unit {0}
+IsFilterAnswer spelling first row image (table.Damaged d) = IsFilterDamage spelling (filter_fault_of first) row image d
+
 -- a damage is that of the index, or where it has none, that of the filter
 abbrev pub IsDamagedTable : Spelling → (Bytes → Fault) → Row → Image → TableFault → Type 0
 IsDamagedTable spelling first row image table.Memory = Unit {0}

@@ -8,7 +8,7 @@ use Rattle.filter_api.specs.Spellings.{IsSpelling, Spelling}
 use Rattle.block_model.specs.Index.{Index, row_pages}
 use Rattle.block_model.specs.IndexReading.{index_fault, index_in}
 use Rattle.block_model.specs.Places.{FitsDevice}
-use Rattle.table_model.specs.Damage.{HasWidths, filter_part, index_part}
+use Rattle.table_model.specs.Damage.{HasWidths, IsSoundFilter, filter_part, index_damage, index_part}
 use Rattle.filter_model.specs.Leaves.{Filter}
 
 pub record Opened : Type 0 where
@@ -21,6 +21,29 @@ pub record IsOfRow (t : Opened) : Type 0 where
   pub fits : FitsDevice t.row
   pub range : IsRowInRange t.row
   pub pages : row_pages t.index.rows ≡ t.row.data_pages
+
+-- an index that was read, with the row that names it
+pub record RowIndex : Type 0 where
+  pub row : Row
+  pub index : Index
+
+-- the table is within the largest device, and its blocks have as many pages as the row says
+pub record IsIndexOfRow (x : RowIndex) : Type 0 where
+  pub fits : FitsDevice x.row
+  pub pages : row_pages x.index.rows ≡ x.row.data_pages
+
+-- the index of a row has no damage, since it keeps its sum and its rules, and this is what its bytes say
+pub record IsReadIndex (row : Row) (image : Image) (x : RowIndex) : Type 0 where
+  pub none : index_damage row image ≡ None
+  pub sum : row.index_sum ≡ fnv_of (index_part row image)
+  pub kept : index_fault row.data_pages (index_part row image) ≡ None
+  pub index_is : x.index ≡ index_in (index_part row image)
+
+-- the filter of a row is sound, and this is what its bytes spell
+pub record IsReadFilter (spelling : Spelling) (row : Row) (image : Image) (f : Filter) : Type 0 where
+  pub sound : IsSoundFilter spelling row image
+  pub leaves_are : sound.leaves ≡ f.leaves
+  pub filter_is : IsSpelling spelling f.hash_bits f.real_bits f.cutoff f.leaves (filter_part row image)
 
 -- index and filter keep their sums and rules and the row's counts and widths, and these are they
 pub record IsOpen (spelling : Spelling) (t : Opened) (image : Image) : Type 0 where

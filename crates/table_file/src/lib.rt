@@ -4,7 +4,7 @@
 //! A [`TableBuilder`] takes entries by rising keys and cuts them into blocks as it goes; [`Parts`] are the blocks, the index
 //! and the filter of its entries, and [`write_parts`] puts them on a device by three writes and a sync. At `Ok` each image
 //! that a crash may leave has the table. [`open_table`] reads index and filter and judges every byte of them before it is
-//! trusted; a [`Table`] then answers a [`get`](Table::get) by one read of one block, or by none where its filter denies the
+//! trusted, and [`read_index`] and [`read_filter`] do so of one of them; a [`Table`] then answers a [`get`](Table::get) by one read of one block, or by none where its filter denies the
 //! key. A [`TableCursor`] walks the entries from a key on: it reads a block where one is due, and hands its entries out where
 //! they lie. The kind of filter and the device are parameters, known by their traits alone.
 //!
@@ -37,6 +37,7 @@ mod laws;
 mod opening;
 mod padded;
 mod parts;
+mod row_index;
 mod summing;
 mod table;
 mod tables;
@@ -49,8 +50,9 @@ pub use laws::{
     opened_tables_stand, standing_tables_are_kept, standing_tables_are_read,
     written_parts_are_shown,
 };
-pub use opening::{fits_device, open_table};
+pub use opening::{fits_device, open_table, read_filter, read_index};
 pub use parts::{Parts, pages_of};
+pub use row_index::Index;
 pub use table::{LARGEST_BLOCK_BYTES, Table};
 pub use tables::Tables;
 pub use writing::write_parts;

@@ -1,19 +1,21 @@
 //! A table is opened: its index and its filter are read and judged.
-ghost use Rattle.std.specs.Prelude.{◌≡◌, ◌+◌, ◌*◌, ◌^◌, ◌≤◌, ◌<◌, length, IsTrue, true, IfOk, IfErr, None};
+ghost use Rattle.std.specs.Prelude.{◌≡◌, ◌+◌, ◌*◌, ◌^◌, ◌≤◌, ◌<◌, length, IsTrue, true, IfOk, IfErr, MatchResult, None};
 ghost use Rattle.byte_fields.specs.Sums.{fnv_of};
 ghost use Rattle.disk_trait.specs.Image.{Image, window};
 ghost use Rattle.disk_trait.specs.World.{ReadMoves};
+ghost use Rattle.filter_api.specs.Ranges.{IsRowInRange};
 ghost use Rattle.filter_api.specs.Spellings.{IsSpelling};
 ghost use Rattle.key_base.specs.Limits.{max_ratio};
 ghost use Rattle.map_model.specs.SortedMap.{Bytes};
 ghost use Rattle.block_model.specs.IndexReading.{index_fault, index_in};
-ghost use Rattle.block_model.specs.Places.{FitsDevice, byte_of_page, end_page, index_page};
+ghost use Rattle.block_model.specs.Places.{FitsDevice, byte_of_page, end_page, filter_page, index_page};
 ghost use Rattle.table_model.specs.Damage.{HasWidths, filter_part, part_damage};
-ghost use Rattle.table_file.specs.Faults.{HasOpenCause, HasReadCause, IsDamage, IsDamagedFilter, IsDamagedTable, IsNoDamage, IsNoDevice, IsOtherSum};
-ghost use Rattle.table_file.specs.Opened.{IsOpen};
+ghost use Rattle.table_file.specs.Faults.{HasOpenCause, HasReadCause, IsDamage, IsDamageOf, IsDamagedFilter, IsDamagedTable, IsFilterAnswer, IsIndexAnswer, IsNoDamage, IsNoDevice, IsOtherSum};
+ghost use Rattle.table_file.specs.Opened.{IsOpen, IsReadFilter, IsReadIndex};
 
 use crate::fault::TableFault;
 use crate::index::BlockIndex;
+use crate::row_index::Index;
 use crate::table::Table;
 use block_model::pages_for;
 use byte_fields::{Damage, Part, PartFault, Row, fnv1a};
@@ -50,13 +52,54 @@ pub fn open_table<F: RangeFilter, D: Disk>(
     ensures cause { IfErr result (HasOpenCause row.now (D.world disk.old) (D.world disk.new)) }
     ensures moves { ReadMoves 2 (D.world disk.old) (D.world disk.new) }
 {
+    let index = read_index(alloc, disk, row)?;
+    let filter: F = read_filter(alloc, disk, row)?;
+    Ok(index.into_table(filter))
+}
+
+/// Reads the index of a row, and judges every byte of it. One read, and memory for it. The row has to
+/// [fit the device](fits_device).
+///
+/// `Ok` exactly where the index has the sum that the row keeps and breaks no rule, unless memory runs out or the device
+/// fails; else its damage.
+pub fn read_index<D: Disk>(alloc: Global, disk: &mut D, row: &Row) -> Result<Index, TableFault>
+    requires { FitsDevice row.now }
+    ensures row { IfOk result (λ x. x.row ≡ row.now) }
+    ensures answer { IsTrue D.tells → MatchResult result (IsReadIndex row.now (D.world disk.old).seen.held) (IsIndexAnswer row.now (D.world disk.old).seen.held) }
+    ensures part { IfErr result (IsDamageOf Part.Index (byte_of_page (index_page row.now)) row.now.index_sum) }
+    ensures cause { IfErr result (HasReadCause (byte_of_page (index_page row.now)) (D.world disk.old) (D.world disk.new)) }
+    ensures moves { ReadMoves 1 (D.world disk.old) (D.world disk.new) }
+{
     let page = u64::from(row.first_page) + u64::from(row.data_pages);
     let bytes = read_part(alloc, disk, page, row.index_len)?;
-    let index = read_index(alloc, row, &bytes)?;
-    let page = page + u64::from(row.index_pages);
+    let blocks = judged_index(alloc, row, &bytes)?;
+    Ok(Index::new(*row, blocks))
+}
+
+/// Reads the filter of a row, and judges every byte of it. One read, and memory for it. The row has to
+/// [fit the device](fits_device).
+///
+/// `Ok` exactly where the filter has the sum that the row keeps, is of its kind's bytes, and has as many leaves as the row
+/// has entries and the widths that the row names, unless memory runs out or the device fails; else its first damage.
+pub fn read_filter<F: RangeFilter, D: Disk>(
+    alloc: Global,
+    disk: &mut D,
+    row: &Row,
+) -> Result<F, TableFault>
+    requires { FitsDevice row.now }
+    ensures answer { IsTrue D.tells → MatchResult result
+        (λ f. IsReadFilter F.spelling row.now (D.world disk.old).seen.held (record { hash_bits = F.hash_bits f; real_bits = F.real_bits f; cutoff = F.cutoff f; leaves = F.leaf_list f }))
+        (IsFilterAnswer F.spelling F.first_fault row.now (D.world disk.old).seen.held) }
+    ensures many { IfOk result (λ f. length (F.leaf_list f) ≡ row.now.entries) }
+    ensures wide { IfOk result (λ f. HasWidths row.now (F.hash_bits f) (F.real_bits f)) }
+    ensures range { IfOk result (λ _. IsRowInRange row.now) }
+    ensures part { IfErr result (IsDamageOf Part.Filter (byte_of_page (filter_page row.now)) row.now.filter_sum) }
+    ensures cause { IfErr result (HasReadCause (byte_of_page (filter_page row.now)) (D.world disk.old) (D.world disk.new)) }
+    ensures moves { ReadMoves 1 (D.world disk.old) (D.world disk.new) }
+{
+    let page = u64::from(row.first_page) + u64::from(row.data_pages) + u64::from(row.index_pages);
     let bytes = read_part(alloc, disk, page, row.filter_len)?;
-    let filter = read_filter(alloc, row, &bytes)?;
-    Ok(Table::new(*row, index, filter))
+    judged_filter(alloc, row, &bytes)
 }
 
 /// Whether the table of a row lies within the largest device, and index and filter have the pages that their lengths want, as
@@ -124,10 +167,11 @@ pub(crate) fn same_sum(part: Part, at: u64, kept: u64, seen: u64) -> Result<(), 
 }
 
 // The index of a row, from its bytes.
-fn read_index(alloc: Global, row: &Row, bytes: &[u8]) -> Result<BlockIndex, TableFault>
+fn judged_index(alloc: Global, row: &Row, bytes: &[u8]) -> Result<BlockIndex, TableFault>
     requires fits { FitsDevice row.now }
     requires size { length bytes.now ≡ row.now.index_len }
     ensures damaged { IfErr result (IsDamage (part_damage Part.Index (byte_of_page (index_page row.now)) row.now.index_sum bytes.now (index_fault row.now.data_pages bytes.now))) }
+    ensures part { IfErr result (IsDamageOf Part.Index (byte_of_page (index_page row.now)) row.now.index_sum) }
     ensures sum { IfOk result (λ _. row.now.index_sum ≡ fnv_of bytes.now) }
     ensures kept { IfOk result (λ _. index_fault row.now.data_pages bytes.now ≡ None) }
     ensures index { IfOk result (λ x. x ≡ index_in bytes.now) }
@@ -146,10 +190,11 @@ fn read_index(alloc: Global, row: &Row, bytes: &[u8]) -> Result<BlockIndex, Tabl
 }
 
 // The filter of a row, from its bytes.
-fn read_filter<F: RangeFilter>(alloc: Global, row: &Row, bytes: &[u8]) -> Result<F, TableFault>
+fn judged_filter<F: RangeFilter>(alloc: Global, row: &Row, bytes: &[u8]) -> Result<F, TableFault>
     requires fits { FitsDevice row.now }
     requires size { length bytes.now ≡ row.now.filter_len }
     ensures damaged { (image : Image) → filter_part row.now image ≡ bytes.now → IfErr result (IsDamagedFilter F.spelling F.first_fault row.now image) }
+    ensures part { IfErr result (IsDamageOf Part.Filter (byte_of_page (filter_page row.now)) row.now.filter_sum) }
     ensures cause { IfErr result IsNoDevice }
     ensures sum { IfOk result (λ _. row.now.filter_sum ≡ fnv_of bytes.now) }
     ensures filter { IfOk result (λ f. IsSpelling F.spelling (F.hash_bits f) (F.real_bits f) (F.cutoff f) (F.leaf_list f) bytes.now) }

@@ -1,11 +1,14 @@
 //! Changed bytes, and what is said of them.
+ghost use Rattle.block_model.specs.Places.{FitsDevice};
+
 use crate::made::{one_entry, opened};
 use byte_fields::{Damage, Part, Row, fnv1a};
 use disk_mem::MemDisk;
 use disk_trait::Disk;
+use plain_filter::PlainFilter;
 use std::alloc::Global;
 use std::test::Fail;
-use table_file::{LARGEST_BLOCK_BYTES, TableFault};
+use table_file::{LARGEST_BLOCK_BYTES, TableFault, fits_device, read_filter, read_index};
 
 // Where the parts of the table of one entry begin.
 const BLOCK: u64 = 786_432;
@@ -117,6 +120,47 @@ fn another_sum_comes_before_the_rules(rt: HostRuntime) -> Result<(), Fail> {
     assert!(rt; disk.write(FILTER + 13, &[1]).is_ok());
     assert_eq!(rt;
         fault_of(alloc, &mut disk, &row)?,
+        sums(Part::Filter, FILTER, filter, 0x27C6C7E0265E94C1)
+    );
+    Ok(())
+}
+
+// What the index of a row says of its blocks: how many there are, the least key, and of the first the last key and the page.
+fn read_alone(alloc: Global, disk: &mut MemDisk, row: &Row) -> Result<(u32, bool, bool, u64), Fail>
+    requires { FitsDevice row.now }
+{
+    let Ok(index) = read_index(alloc, disk, row) else {
+        return Err(Fail::from("no index"));
+    };
+    let blocks = index.blocks();
+    if blocks == 0 {
+        return Err(Fail::from("no blocks"));
+    }
+    let least = index.least() == b"a".as_slice();
+    let last = index.last(0) == b"a".as_slice();
+    Ok((blocks, least, last, index.first_page(0)))
+}
+
+#[test]
+fn index_and_filter_are_read_by_themselves(rt: HostRuntime) -> Result<(), Fail> {
+    let alloc = rt.alloc();
+    let [_, index, filter] = SUMS;
+    let (mut disk, row) = one_entry(alloc)?;
+    if !fits_device(&row) {
+        return Err(Fail::from("no row"));
+    }
+    assert_eq!(rt; read_alone(alloc, &mut disk, &row)?, (1, true, true, 192));
+    let found: Result<PlainFilter, TableFault> = read_filter(alloc, &mut *disk, &row);
+    assert_eq!(rt; found.err(), None);
+    change_index(&mut disk, 11, &[2])?;
+    assert!(rt; disk.write(FILTER + 13, &[1]).is_ok());
+    assert_eq!(rt;
+        read_index(alloc, &mut *disk, &row).err(),
+        sums(Part::Index, INDEX, index, 0x5B1C021F6EFB4BD8)
+    );
+    let found: Result<PlainFilter, TableFault> = read_filter(alloc, &mut *disk, &row);
+    assert_eq!(rt;
+        found.err(),
         sums(Part::Filter, FILTER, filter, 0x27C6C7E0265E94C1)
     );
     Ok(())

@@ -1,25 +1,36 @@
-use Rattle.std.proofs.Common.{◌≡◌, sym, ◌∙◌, subst}
-use Rattle.std.specs.Prelude.{MatchResult}
+use Rattle.std.proofs.Common.{subst}
 use Rattle.disk_trait.specs.Image.{Image}
-use Rattle.manifest.specs.Loading.{AreGates, IsLoadAnswer, IsLoaded}
-use Rattle.manifest.proofs.Loads.{damaged_of, exact_of, gates_read, none_of}
+use Rattle.manifest_model.specs.Slots.{slot_damage}
+use Rattle.manifest_model.specs.Version.{slot_b}
+use Rattle.manifest.specs.Loading.{IsSlotAnswer}
+use Rattle.manifest.specs.Reading.{IsDamage}
+use Rattle.manifest.proofs.Loads.{a_answer, b_answer, damaged_of, err_answer, exact_of, none_of}
 use Rattle.manifest.proofs.loading.load.Goals as goal
+
+pub returns-in_err-a-clause-exact : goal.returns-in_err-a-clause-exact
+returns-in_err-a-clause-exact g c v tells =
+    let held = (g.D.Disk.world c.args.disk.now).seen.held in
+    let found = c.in_err-a.field-0.0 in
+    exact_of held v c.from_residual.result (err_answer held c.from_residual.result found c.from_residual.ensures.1 (a_answer held found (c.in_err-a.ensures.answer tells)))
+
+pub returns-in_err-b-clause-exact : goal.returns-in_err-b-clause-exact
+returns-in_err-b-clause-exact g c v tells =
+    let held = (g.D.Disk.world c.args.disk.now).seen.held in
+    let found = c.in_err-b.field-0.0 in
+    let b = subst (λ (f : Image). IsDamage (slot_damage slot_b f) found) c.in_ok-a.ensures.moves.held (c.in_err-b.ensures.answer tells) in
+    exact_of held v c.from_residual-in_err-b.result
+    (err_answer held c.from_residual-in_err-b.result found c.from_residual-in_err-b.ensures.1 (b_answer held c.in_ok-a.a found (c.in_ok-a.ensures.answer tells) b))
 
 pub returns-clause-answer : goal.returns-clause-answer
 returns-clause-answer g c tells =
     let held = (g.D.Disk.world c.args.disk.now).seen.held in
-    let a_open = c.in_ok-a_open.a_open in
-    let b_open = c.in_ok-b_open.b_open in
-    let same : _ ≡ held = c.in_ok-b_open.ensures.moves.held ∙ c.in_ok-a_open.ensures.moves.held in
-    let gates = gates_read a_open b_open held _ c.in_ok-a_open.ensures.moves.held (c.in_ok-a_open.ensures.gate tells) (c.in_ok-b_open.ensures.gate tells) in
-    subst (λ (f : Image). MatchResult c.read_open.result (IsLoaded f) (IsLoadAnswer f)) same
-    (c.read_open.ensures.answer tells (subst (λ (f : Image). AreGates a_open b_open f) (sym same) gates))
+    c.current.ensures.answer held (c.in_ok-a.ensures.answer tells) (subst (λ (f : Image). IsSlotAnswer slot_b f c.in_ok-b.b) c.in_ok-a.ensures.moves.held (c.in_ok-b.ensures.answer tells))
 
 pub returns-clause-exact : goal.returns-clause-exact
-returns-clause-exact g c v tells is = exact_of (g.D.Disk.world c.args.disk.now).seen.held v c.read_open.result (returns-clause-answer g c tells) is
+returns-clause-exact g c v tells = exact_of (g.D.Disk.world c.args.disk.now).seen.held v c.current.result (returns-clause-answer g c tells)
 
 pub returns-clause-none : goal.returns-clause-none
-returns-clause-none g c tells none = none_of (g.D.Disk.world c.args.disk.now).seen.held c.read_open.result (returns-clause-answer g c tells) none
+returns-clause-none g c tells = none_of (g.D.Disk.world c.args.disk.now).seen.held c.current.result (returns-clause-answer g c tells)
 
 pub returns-clause-damaged : goal.returns-clause-damaged
-returns-clause-damaged g c found tells is = damaged_of (g.D.Disk.world c.args.disk.now).seen.held found c.read_open.result (returns-clause-answer g c tells) is
+returns-clause-damaged g c found tells = damaged_of (g.D.Disk.world c.args.disk.now).seen.held found c.current.result (returns-clause-answer g c tells)

@@ -1,4 +1,4 @@
-use Rattle.std.proofs.Common.{◌≡◌, ◌⊎◌, ◌+◌, ◌*◌, ℕ, drop, sym, subst, ◌∙◌}
+use Rattle.std.proofs.Common.{◌≡◌, ◌⊎◌, ◌+◌, ◌*◌, ℕ, false, drop, sym, subst, ◌∙◌}
 use Rattle.byteorder.specs.Endian.{little_number}
 use Rattle.manifest_model.specs.Reading.{version_in}
 use Rattle.manifest.proofs.Bodies.{log_area_kept}
@@ -24,5 +24,5 @@ returns c =
         rows = c.requires.rows i;
       };
       slot = c.args.slot;
-      other_open = c.args.other_open;
+      other_open = false;
     }

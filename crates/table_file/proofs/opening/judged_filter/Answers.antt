@@ -4,7 +4,7 @@ use Rattle.std.proofs.lemmas.Bool.{eq-eqb}
 use Rattle.std.specs.Prelude.{Err}
 use Rattle.block_model.specs.Places.{byte_of_page, filter_page}
 use Rattle.table_file.proofs.Damages.{fault_damage, leaves_damage, sum_damage, widths_damage}
-use Rattle.table_file.proofs.opening.read_filter.Goals as goal
+use Rattle.table_file.proofs.opening.judged_filter.Goals as goal
 
 pub returns-in_err-check_sum-clause-damaged : goal.returns-in_err-check_sum-clause-damaged
 returns-in_err-check_sum-clause-damaged g c image part_is =

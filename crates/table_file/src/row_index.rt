@@ -1,0 +1,90 @@
+//! The index of a table whose filter is not read yet.
+ghost use Rattle.std.specs.Prelude.{◌≡◌, ◌+◌, ◌<◌, length, take};
+ghost use Rattle.block_model.specs.Index.{row_pages};
+ghost use Rattle.filter_api.specs.Ranges.{IsRowInRange};
+ghost use Rattle.table_file.specs.Search.{row_at};
+
+use crate::index::BlockIndex;
+use crate::table::Table;
+use byte_fields::Row;
+use filter_api::RangeFilter;
+use std::marker::Model;
+
+/// The index of a table in memory, with the table's row.
+#[derive(Drop)]
+pub struct Index {
+    row: Row,
+    blocks: BlockIndex,
+}
+
+impl Model for Index {
+    ghost use Rattle.table_file.specs.Opened.{IsIndexOfRow, RowIndex};
+
+    ghost Value = { RowIndex };
+
+    ghost view = { λ x. record { row = x.row; index = x.blocks } };
+
+    ghost invariant = { λ x. IsIndexOfRow (record { row = x.row; index = x.blocks }) };
+}
+
+impl Index {
+    ghost use Rattle.table_file.specs.Opened.{IsIndexOfRow};
+
+    /// The index of a row with these blocks.
+    pub(crate) fn new(row: Row, blocks: BlockIndex) -> Index
+        requires { IsIndexOfRow (record { row = row; index = blocks }) }
+        ensures { result ≡ record { row = row; index = blocks } }
+    {
+        Index { row, blocks }
+    }
+
+    /// The row that names it.
+    pub fn row(&self) -> &Row
+        ensures { result.now ≡ self.now.row }
+    {
+        &self.row
+    }
+
+    /// How many blocks the table has, numbered from 0.
+    pub fn blocks(&self) -> u32
+        ensures { result ≡ length self.now.index.rows }
+    {
+        self.blocks.len()
+    }
+
+    /// The least key of the table.
+    pub fn least(&self) -> &[u8]
+        ensures { result.now ≡ self.now.index.least }
+    {
+        self.blocks.least()
+    }
+
+    /// The last key of the block number `n`.
+    pub fn last(&self, n: u32) -> &[u8]
+        requires { n < length self.now.index.rows }
+        ensures { result.now ≡ (row_at self.now.index.rows n).last }
+    {
+        self.blocks.row(n as usize).last.as_slice()
+    }
+
+    /// The page of the device at which the block number `n` begins.
+    pub fn first_page(&self, n: u32) -> u64
+        requires { n < length self.now.index.rows }
+        ensures { result ≡ self.now.row.first_page + row_pages (take n self.now.index.rows) }
+    {
+        u64::from(self.row.first_page) + self.blocks.row(n as usize).first
+    }
+
+    /// The table with this filter, which is one of the row's settings.
+    pub fn into_table<F: RangeFilter>(self, filter: F) -> Table<F>
+        requires { IsRowInRange self.row }
+        ensures { result ≡ record {
+          row = self.row;
+          index = self.index;
+          filter = record { hash_bits = F.hash_bits filter; real_bits = F.real_bits filter; cutoff = F.cutoff filter; leaves = F.leaf_list filter };
+        } }
+    {
+        let Index { row, blocks } = self;
+        Table::new(row, blocks, filter)
+    }
+}
