@@ -6,9 +6,11 @@ use plain_filter::PlainFilter;
 use plain_store::{Answer, Reply, Request, State, ask, choose, sliced, with_pages, with_settings};
 use std::alloc::{AllocError, Global};
 use std::test::Fail;
-use store_core::{Explained, Limit, Scan, StoreError, Tended};
+use store_core::{Explained, Limit, StoreError, Tended};
 use test_kit::Numbers;
-use test_stores::{BASE, Left, PlainStore, disk_of, left_by, new_state, opened};
+use test_stores::{
+    BASE, Left, PlainScan, PlainStore, disk_of, left_by, new_state, opened, range_of, seek_of,
+};
 
 const KEYS: [&[u8]; 16] = [
     b"\x00",
@@ -142,27 +144,6 @@ fn gets_so(
         Reply::Missing => found.is_none(),
         _ => false,
     })
-}
-
-type PlainScan<'s> = Scan<'s, PlainFilter>;
-
-fn seek_of<'s>(
-    alloc: Global,
-    store: &'s PlainStore,
-    low: &[u8],
-    high: Option<&[u8]>,
-) -> Result<Box<PlainScan<'s>>, Fail> {
-    Ok(Box::new(alloc, store.seek(low, high)?)?)
-}
-
-fn range_of<'s>(
-    alloc: Global,
-    store: &'s PlainStore,
-    low: &[u8],
-    high: &[u8],
-    most: u64,
-) -> Result<Box<PlainScan<'s>>, Fail> {
-    Ok(Box::new(alloc, store.range(low, high, most)?)?)
 }
 
 // Whether a seek or a range gives these pairs.
@@ -378,14 +359,17 @@ pub enum Between {
     Nothing,
     Settings(Settings),
     Pages(u64),
-    Crash,
+    Crash(Left),
 }
+
+// What crashes leave of the writes that wait for a sync.
+const LEFT: [Left; 3] = [Left::Whole, Left::Lost, Left::Sevens];
 
 fn drawn_between(numbers: &mut Numbers, pages: u64) -> Between {
     match numbers.draw_below(30) {
         0 | 1 => Between::Settings(VARIANTS[numbers.draw_below(4).min(3)]),
         2 => Between::Pages(pages.saturating_add(numbers.draw_below(40) as u64)),
-        3 => Between::Crash,
+        3 => Between::Crash(LEFT[numbers.draw_below(3).min(2)]),
         _ => Between::Nothing,
     }
 }
@@ -400,7 +384,7 @@ pub fn state_behind(
         Between::Nothing => return Ok(state),
         Between::Settings(settings) => with_settings(alloc, &state, settings)?,
         Between::Pages(pages) => with_pages(alloc, &state, pages)?,
-        Between::Crash => {
+        Between::Crash(_) => {
             let mut same = state.copy(alloc)?;
             same.job = None;
             Ok(same)
@@ -423,8 +407,8 @@ pub fn store_behind(
         Between::Nothing => {}
         Between::Settings(settings) => store.set_settings(&mut *disk, settings)?,
         Between::Pages(pages) => store.grow(&mut *disk, pages)?,
-        Between::Crash => {
-            let mut left = left_by(alloc, &disk, Left::Lost)?;
+        Between::Crash(left) => {
+            let mut left = left_by(alloc, &disk, left)?;
             let again = opened(alloc, &mut left)?;
             return Ok((again, left));
         }

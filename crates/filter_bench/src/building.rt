@@ -2,7 +2,7 @@
 ghost use Rattle.filter_model.specs.Keys.{IsKeyList};
 
 use anyhow::{Result, bail};
-use bench_kit::{Least, ROUNDS, Watch, boxed};
+use bench_kit::{Figure, Least, ROUNDS, Watch, boxed, print_measure};
 use filter_trie::{Trie, build};
 use key_base::KeyList;
 use key_truncate::truncate;
@@ -38,10 +38,14 @@ fn print_built(
     whole: Least,
     planned: Least,
 ) -> io::Result<()> {
-    println!(rt; "{keys} keys")?;
-    println!(rt; "{} levels, {} of them dense", trie.height(), trie.cutoff())?;
-    println!(rt; "build: {:.2} million keys a second", whole.millions())?;
-    println!(rt; "build from their plan: {:.2} million", planned.millions())
+    let figures = [
+        ("keys", Figure::Count(keys as u64)),
+        ("levels", Figure::Count(u64::from(trie.height()))),
+        ("dense_levels", Figure::Count(u64::from(trie.cutoff()))),
+        ("million_keys_a_second", Figure::Real(whole.millions())),
+        ("million_by_their_plan", Figure::Real(planned.millions())),
+    ];
+    print_measure(rt, "filter_bench", "build", &figures)
 }
 
 // Builds it once, from the keys alone.

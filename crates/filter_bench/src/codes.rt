@@ -1,6 +1,6 @@
 //! A trie's image, written and read.
 use anyhow::{Result, bail};
-use bench_kit::{Least, ROUNDS, Watch, boxed};
+use bench_kit::{Figure, Least, ROUNDS, Watch, boxed, print_measure};
 use filter_codec::{decode, encode};
 use filter_trie::Trie;
 use std::alloc::Global;
@@ -34,9 +34,12 @@ fn rounds(
 }
 
 fn print_codes(rt: &impl Print, bytes: usize, written: Least, read: Least) -> io::Result<()> {
-    println!(rt; "image: {bytes} bytes")?;
-    println!(rt; "image: encode {:.1} MB a second", written.millions())?;
-    println!(rt; "image: decode {:.1} MB a second", read.millions())
+    let figures = [
+        ("bytes", Figure::Count(bytes as u64)),
+        ("encode_mb_a_second", Figure::Real(written.millions())),
+        ("decode_mb_a_second", Figure::Real(read.millions())),
+    ];
+    print_measure(rt, "filter_bench", "image", &figures)
 }
 
 // Appends the image once: nanoseconds a byte.

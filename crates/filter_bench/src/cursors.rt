@@ -1,7 +1,7 @@
 //! A cursor: where it starts, what it says of its leaf, and how it goes from leaf to leaf.
 use crate::texts::Texts;
 use anyhow::{Result, bail};
-use bench_kit::{Least, ROUNDS, Watch};
+use bench_kit::{Figure, Least, ROUNDS, Watch, print_measure};
 use filter_iter::{FilterCursor, least_of};
 use filter_trie::Trie;
 use key_base::MAX_KEY_BYTES;
@@ -18,7 +18,8 @@ pub fn cursor_rounds(
     for _ in 0..ROUNDS {
         next.keep(leaves_timed(rt, alloc, trie)?);
     }
-    println!(rt; "cursor: next {:.1} ns", next.nanoseconds)?;
+    let figures = [("ns", Figure::Real(next.nanoseconds))];
+    print_measure(rt, "filter_bench", "cursor_next", &figures)?;
     Ok(())
 }
 
@@ -78,10 +79,12 @@ pub fn start_rounds(
         said.keep(starts_timed(rt, alloc, trie, keys, true)?);
         asked.keep(least_timed(rt, alloc, trie)?);
     }
-    println!(rt;
-        "cursor: start {:.1} ns, with least {:.1} ns; least_of {:.1} ns",
-        start.nanoseconds, said.nanoseconds, asked.nanoseconds
-    )?;
+    let figures = [
+        ("ns", Figure::Real(start.nanoseconds)),
+        ("with_least_ns", Figure::Real(said.nanoseconds)),
+        ("least_of_ns", Figure::Real(asked.nanoseconds)),
+    ];
+    print_measure(rt, "filter_bench", "cursor_start", &figures)?;
     Ok(())
 }
 

@@ -3,7 +3,7 @@
 //!
 //! ```text
 //! filter_bench all --count 1000000
-//! filter_bench all --keys words --count 1000000
+//! filter_bench walks --keys words --count 1000000
 //! filter_bench all --count 100000 --ratio 16
 //! ```
 //!
@@ -51,17 +51,36 @@ use variants::{Queries, variant_rounds};
 const ABOUT: &str = "\
 Measures filters of --count keys of a kind, --keys: random (8 bytes) or words (10 to 20 letters, which begin as others do)
 by --seed. The upper levels of a trie are dense by --ratio:
-  all     a trie beside a Bloom filter and a binary search, its image, cursor and ranges, filters with and without suffix
-          bits beside their walks, and a plain filter";
+  build     how fast the trie of the keys is made, and its levels: every measure begins so
+  image     how fast its image is written and read
+  cursors   how fast a cursor goes over its leaves, and others start at keys
+  ranges    seeks, ranges and tallies from keys on, each beside a walk
+  walks     walks beside a Bloom filter and a binary search, and what each of the three takes
+  variants  filters with and without suffix bits, beside their walks
+  plain     a plain filter
+  all       each of them, in this order";
 
 // What the options ask for.
 #[derive(Clone, Copy)]
-struct Asked {
+struct Asked<'a> {
+    measure: &'a str,
     kind: Kind,
     count: u32,
     seed: u64,
     ratio: u16,
 }
+
+impl Asked<'_> {
+    // Whether this is measured.
+    fn has(&self, measure: &str) -> bool {
+        self.measure == "all" || self.measure == measure
+    }
+}
+
+// What may be asked for beside `all`.
+const MEASURES: [&str; 7] = [
+    "build", "image", "cursors", "ranges", "walks", "variants", "plain",
+];
 
 fn main(rt: HostRuntime) -> Result<()> {
     let words: Vec<String> = env::args(&rt)?.skip(1).collect(rt.alloc())?;
@@ -71,14 +90,15 @@ fn main(rt: HostRuntime) -> Result<()> {
     }
 }
 
-fn asked_by(options: Options<'_>) -> Result<Asked> {
-    if options.measure != "all" {
+fn asked_by<'a>(options: Options<'a>) -> Result<Asked<'a>> {
+    if options.measure != "all" && !MEASURES.contains(&options.measure) {
         bail!("no such measure: see --help");
     }
     let Some(kind) = Kind::named(options.keys) else {
         bail!("keys are random or words");
     };
     Ok(Asked {
+        measure: options.measure,
         kind,
         count: u32::try_from(options.count)?,
         seed: options.seed,
@@ -87,7 +107,7 @@ fn asked_by(options: Options<'_>) -> Result<Asked> {
 }
 
 // Draws keys, and measures what is built of them.
-fn measure(rt: &(impl Print + CpuClock), alloc: Global, asked: Asked) -> Result<()> {
+fn measure(rt: &(impl Print + CpuClock), alloc: Global, asked: Asked<'_>) -> Result<()> {
     let mut numbers = Numbers::new(asked.seed);
     let present = draw_keys(alloc, asked.kind, asked.count, &mut numbers)?;
     let keys = sorted(alloc, &present)?;
@@ -101,7 +121,7 @@ fn measure(rt: &(impl Print + CpuClock), alloc: Global, asked: Asked) -> Result<
 fn measure_keys(
     rt: &(impl Print + CpuClock),
     alloc: Global,
-    asked: Asked,
+    asked: Asked<'_>,
     present: &Texts,
     keys: &KeyList,
     numbers: &mut Numbers,
@@ -109,27 +129,29 @@ fn measure_keys(
     requires { IsKeyList keys.now }
 {
     let finders = Finders::new(rt, alloc, keys, asked.ratio)?;
-    code_rounds(rt, alloc, &finders.trie)?;
-    cursor_rounds(rt, alloc, &finders.trie)?;
-    start_rounds(rt, alloc, &finders.trie, present)?;
+    if asked.has("image") {
+        code_rounds(rt, alloc, &finders.trie)?;
+    }
+    if asked.has("cursors") {
+        cursor_rounds(rt, alloc, &finders.trie)?;
+        start_rounds(rt, alloc, &finders.trie, present)?;
+    }
     let absent = draw_absent(alloc, asked.kind, present, keys, &finders.search, numbers)?;
-    ask_finders(
-        rt,
-        alloc,
-        asked.kind,
-        &finders,
-        keys.len(),
-        present,
-        &absent,
-    )?;
-    ask_variants(rt, alloc, asked, keys, present, &absent)
+    ask_finders(rt, alloc, asked, &finders, keys.len(), present, &absent)?;
+    if asked.has("variants") {
+        ask_variants(rt, alloc, asked, keys, present, &absent)?;
+    }
+    if asked.has("plain") {
+        plain_round(rt, alloc, keys, &absent)?;
+    }
+    Ok(())
 }
 
-// Builds succinct filters and a plain one of the keys, and asks them.
+// Builds succinct filters of the keys, and asks them.
 fn ask_variants(
     rt: &(impl Print + CpuClock),
     alloc: Global,
-    asked: Asked,
+    asked: Asked<'_>,
     keys: &KeyList,
     present: &Texts,
     absent: &Texts,
@@ -144,25 +166,29 @@ fn ask_variants(
         absent,
         highs: &highs,
     };
-    variant_rounds(rt, alloc, keys, asked.ratio, queries)?;
-    plain_round(rt, alloc, keys, absent)
+    variant_rounds(rt, alloc, keys, asked.ratio, queries)
 }
 
 // Asks the trie for ranges from both lists of keys on, and all three for the keys.
 fn ask_finders(
     rt: &(impl Print + CpuClock),
     alloc: Global,
-    kind: Kind,
+    asked: Asked<'_>,
     finders: &Finders,
     count: usize,
     present: &Texts,
     absent: &Texts,
 ) -> Result<()> {
-    ask_ranges(rt, alloc, kind, "present", &finders.trie, present)?;
-    ask_ranges(rt, alloc, kind, "absent", &finders.trie, absent)?;
-    finders.print_sizes(rt, count)?;
-    race(rt, "present", finders, present)?;
-    race(rt, "absent", finders, absent)
+    if asked.has("ranges") {
+        ask_ranges(rt, alloc, asked.kind, "present", &finders.trie, present)?;
+        ask_ranges(rt, alloc, asked.kind, "absent", &finders.trie, absent)?;
+    }
+    if asked.has("walks") {
+        finders.print_sizes(rt, count)?;
+        race(rt, "present", finders, present)?;
+        race(rt, "absent", finders, absent)?;
+    }
+    Ok(())
 }
 
 fn ask_ranges(

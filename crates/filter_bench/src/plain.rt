@@ -3,7 +3,7 @@ ghost use Rattle.filter_model.specs.Keys.{IsKeyList};
 
 use crate::texts::Texts;
 use anyhow::{Result, bail};
-use bench_kit::{Watch, boxed, share};
+use bench_kit::{Figure, Watch, boxed, print_measure, share};
 use filter_api::{RangeFilter, Settings};
 use key_base::KeyList;
 use plain_filter::PlainFilter;
@@ -35,19 +35,22 @@ pub fn plain_round(
     let watch = Watch::start(rt)?;
     let filter = boxed(alloc, PlainFilter::build(alloc, keys, SETTINGS)?)?;
     let taken = watch.stop_each(rt, keys.len() as u64)?;
-    println!(rt; "plain: build {:.2} million keys a second", 1e3 / taken)?;
-    print_size(rt, alloc, &filter)?;
+    print_made(rt, alloc, &filter, 1e3 / taken)?;
     ask_plain(rt, &filter, queries)
 }
 
-fn print_size(rt: &impl Print, alloc: Global, filter: &PlainFilter) -> Result<()> {
+fn print_made(rt: &impl Print, alloc: Global, filter: &PlainFilter, millions: f64) -> Result<()> {
     let mut spelled = Vec::new(alloc);
     filter.encode(&mut spelled)?;
     let bits = (spelled.len() as u64).saturating_mul(8);
-    println!(rt;
-        "plain: bits a key: {:.2}",
-        share(bits, u64::from(filter.leaves()))
-    )?;
+    let figures = [
+        ("million_keys_a_second", Figure::Real(millions)),
+        (
+            "bits_a_key",
+            Figure::Real(share(bits, u64::from(filter.leaves()))),
+        ),
+    ];
+    print_measure(rt, "filter_bench", "plain_build", &figures)?;
     Ok(())
 }
 
@@ -58,7 +61,14 @@ fn ask_plain(rt: &(impl Print + CpuClock), filter: &PlainFilter, queries: &Texts
     let watch = Watch::start(rt)?;
     let sum = seeks(filter, queries);
     let seek = watch.stop_each(rt, ASKED as u64)?;
-    println!(rt; "plain: point {point:.0} ns, seek {seek:.0} ns, {held} held, sum {sum}")?;
+    let figures = [
+        ("keys", Figure::Count(ASKED as u64)),
+        ("point_ns", Figure::Real(point)),
+        ("seek_ns", Figure::Real(seek)),
+        ("held", Figure::Count(held)),
+        ("sum", Figure::Count(sum)),
+    ];
+    print_measure(rt, "filter_bench", "plain_asked", &figures)?;
     Ok(())
 }
 

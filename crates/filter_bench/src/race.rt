@@ -9,7 +9,7 @@ use crate::sizes::Sizes;
 use crate::stubs::StubSearch;
 use crate::texts::Texts;
 use anyhow::{Result, bail};
-use bench_kit::{Least, ROUNDS, Watch, boxed, share};
+use bench_kit::{Figure, Least, ROUNDS, Watch, boxed, print_measure, share};
 use filter_trie::Trie;
 use key_base::KeyList;
 use std::alloc::Global;
@@ -51,12 +51,15 @@ impl Finders {
     pub fn print_sizes(&self, rt: &impl Print, keys: usize) -> io::Result<()> {
         let sizes = Sizes::of(&self.trie);
         let count = keys as u64;
-        let sections = share(sizes.sections, count);
-        let memory = share(sizes.memory, count);
-        println!(rt; "bits a key: sections {sections:.2}, in memory {memory:.2}")?;
-        let bloom = share(self.bloom.bits() as u64, count);
-        let search = share(self.search.bits() as u64, count);
-        println!(rt; "bits a key: Bloom {bloom:.2}, search {search:.2}")
+        let bloom = self.bloom.bits() as u64;
+        let search = self.search.bits() as u64;
+        let figures = [
+            ("sections", Figure::Real(share(sizes.sections, count))),
+            ("memory", Figure::Real(share(sizes.memory, count))),
+            ("bloom", Figure::Real(share(bloom, count))),
+            ("search", Figure::Real(share(search, count))),
+        ];
+        print_measure(rt, "filter_bench", "bits_a_key", &figures)
     }
 }
 
@@ -110,13 +113,18 @@ pub fn race(
         let (again, _) = round(rt, finders, queries, &mut times)?;
         sum = sum.wrapping_add(again.sum);
     }
-    let count = queries.len() as u64;
     print_times(rt, name, times)?;
-    println!(rt; "{name}: {count} keys, sum {sum}")?;
-    let visited = share(levels(&finders.trie, queries), count);
-    println!(rt; "{name}: {visited:.2} levels a walk")?;
-    let (led, passed) = (share(walked.count, count), share(passed.count, count));
-    println!(rt; "{name}: {led:.4} led to a leaf, {passed:.4} passed the Bloom filter")?;
+    let count = queries.len() as u64;
+    let visited = levels(&finders.trie, queries);
+    let figures = [
+        ("queries", Figure::Word(name)),
+        ("keys", Figure::Count(count)),
+        ("levels_a_walk", Figure::Real(share(visited, count))),
+        ("led", Figure::Real(share(walked.count, count))),
+        ("passed_bloom", Figure::Real(share(passed.count, count))),
+        ("sum", Figure::Count(sum)),
+    ];
+    print_measure(rt, "filter_bench", "found", &figures)?;
     Ok(())
 }
 
@@ -127,15 +135,13 @@ fn print_times(rt: &impl Print, name: &str, times: Times) -> io::Result<()> {
         bloom,
         search,
     } = times;
-    println!(rt; "{name}: walk {:.1} ns", walk.nanoseconds)?;
-    println!(rt;
-        "{name}: Bloom {:.1} ns, ratio {:.2}",
-        bloom.nanoseconds,
-        walk.over(bloom)
-    )?;
-    println!(rt;
-        "{name}: search {:.1} ns, ratio {:.2}",
-        search.nanoseconds,
-        walk.over(search)
-    )
+    let figures = [
+        ("queries", Figure::Word(name)),
+        ("ns", Figure::Real(walk.nanoseconds)),
+        ("bloom_ns", Figure::Real(bloom.nanoseconds)),
+        ("bloom_ratio", Figure::Real(walk.over(bloom))),
+        ("search_ns", Figure::Real(search.nanoseconds)),
+        ("search_ratio", Figure::Real(walk.over(search))),
+    ];
+    print_measure(rt, "filter_bench", "walk", &figures)
 }

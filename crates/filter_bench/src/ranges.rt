@@ -3,7 +3,7 @@ use crate::finder::ask;
 use crate::keys::Kind;
 use crate::texts::Texts;
 use anyhow::{Result, bail};
-use bench_kit::{Least, ROUNDS, Watch, share};
+use bench_kit::{Figure, Least, ROUNDS, Watch, print_measure, share};
 use filter_iter::{range, seek, tally};
 use filter_trie::Trie;
 use std::alloc::Global;
@@ -51,7 +51,13 @@ fn raise(key: &mut [u8], place: usize) {
 /// Prints which part of ranges holds a key indeed. The keys rise, and no range begins with one.
 pub fn print_full(rt: &impl Print, keys: &Texts, lows: &Texts, highs: &Texts) -> io::Result<()> {
     let full = full_ranges(keys, lows, highs);
-    println!(rt; "ranges: {:.6} hold a key", share(full, lows.len() as u64))
+    let part = share(full, lows.len() as u64);
+    print_measure(
+        rt,
+        "filter_bench",
+        "full_ranges",
+        &[("part", Figure::Real(part))],
+    )
 }
 
 fn full_ranges(keys: &Texts, lows: &Texts, highs: &Texts) -> u64 {
@@ -94,10 +100,14 @@ pub fn range_rounds(
         held = range_round(rt, trie, lows, highs, &mut times, &mut sum)?;
     }
     print_times(rt, name, times)?;
-    let count = lows.len();
-    println!(rt; "ranges {name}: {count} ranges, sum {sum}")?;
-    let part = share(held, count as u64);
-    println!(rt; "ranges {name}: {part:.6} may hold a key")?;
+    let count = lows.len() as u64;
+    let figures = [
+        ("queries", Figure::Word(name)),
+        ("ranges", Figure::Count(count)),
+        ("may_hold", Figure::Real(share(held, count))),
+        ("sum", Figure::Count(sum)),
+    ];
+    print_measure(rt, "filter_bench", "ranges_found", &figures)?;
     Ok(())
 }
 
@@ -120,20 +130,22 @@ fn range_round(
     Ok(held)
 }
 
-// Prints all four, and how many times a walk's time the others take.
+// Prints the other three beside a walk.
 fn print_times(rt: &impl Print, name: &str, times: Times) -> io::Result<()> {
-    println!(rt; "ranges {name}: walk {:.1} ns", times.walk.nanoseconds)?;
     print_time(rt, name, "seek", times.seek, times.walk)?;
     print_time(rt, name, "range", times.range, times.walk)?;
     print_time(rt, name, "tally", times.tally, times.walk)
 }
 
+// Prints a call, and how many times a walk's time it takes.
 fn print_time(rt: &impl Print, name: &str, call: &str, time: Least, walk: Least) -> io::Result<()> {
-    println!(rt;
-        "ranges {name}: {call} {:.1} ns, ratio {:.2}",
-        time.nanoseconds,
-        time.over(walk)
-    )
+    let figures = [
+        ("queries", Figure::Word(name)),
+        ("ns", Figure::Real(time.nanoseconds)),
+        ("walk_ns", Figure::Real(walk.nanoseconds)),
+        ("ratio", Figure::Real(time.over(walk))),
+    ];
+    print_measure(rt, "filter_bench", call, &figures)
 }
 
 // Walks once: nanoseconds a walk.

@@ -9,11 +9,10 @@ use crate::ranges::range_rounds;
 use crate::sizes::Sizes;
 use crate::texts::Texts;
 use anyhow::{Result, bail};
-use bench_kit::{Least, ROUNDS, Watch, boxed, share};
+use bench_kit::{Figure, Least, ROUNDS, Watch, boxed, print_measure, share};
 use filter_api::{RangeFilter, Settings};
 use key_base::KeyList;
 use std::alloc::Global;
-use std::io;
 use std::time::CpuClock;
 use surf_filter::SurfFilter;
 
@@ -99,10 +98,11 @@ fn build_rounds(
         build_timed(rt, alloc, keys, settings, &mut least)?;
     }
     let filter = build_timed(rt, alloc, keys, settings, &mut least)?;
-    println!(rt;
-        "{name}: build {:.2} million keys a second",
-        least.millions()
-    )?;
+    let figures = [
+        ("filter", Figure::Word(name)),
+        ("million_keys_a_second", Figure::Real(least.millions())),
+    ];
+    print_measure(rt, "filter_bench", "variant_build", &figures)?;
     Ok(filter)
 }
 
@@ -147,7 +147,12 @@ fn print_sizes(
     let leaves = u64::from(filter.leaves());
     let written = share((image.len() as u64).saturating_mul(8), leaves);
     let held = share(Sizes::of(filter.trie()).memory, leaves);
-    println!(rt; "{name}: bits a key: image {written:.2}, in memory {held:.2}")?;
+    let figures = [
+        ("filter", Figure::Word(name)),
+        ("image", Figure::Real(written)),
+        ("memory", Figure::Real(held)),
+    ];
+    print_measure(rt, "filter_bench", "variant_bits_a_key", &figures)?;
     Ok(())
 }
 
@@ -167,25 +172,20 @@ fn point_rounds(
         sum = sum.wrapping_add(asked_once(rt, filter.trie(), queries, &mut walk)?.1);
         held = asked_once(rt, filter, queries, &mut point)?.0;
     }
-    print_points(rt, name, which, point, walk)?;
-    let part = share(held, queries.len() as u64);
-    println!(rt; "{name}, {which}: {part:.6} may be held, sum of walks {sum}")?;
+    let figures = [
+        ("filter", Figure::Word(name)),
+        ("queries", Figure::Word(which)),
+        ("ns", Figure::Real(point.nanoseconds)),
+        ("walk_ns", Figure::Real(walk.nanoseconds)),
+        ("ratio", Figure::Real(point.over(walk))),
+        (
+            "may_be_held",
+            Figure::Real(share(held, queries.len() as u64)),
+        ),
+        ("sum", Figure::Count(sum)),
+    ];
+    print_measure(rt, "filter_bench", "variant_point", &figures)?;
     Ok(())
-}
-
-fn print_points(
-    rt: &impl Print,
-    name: &str,
-    which: &str,
-    point: Least,
-    walk: Least,
-) -> io::Result<()> {
-    println!(rt;
-        "{name}, {which}: point {:.1} ns, walk {:.1} ns, ratio {:.2}",
-        point.nanoseconds,
-        walk.nanoseconds,
-        point.over(walk)
-    )
 }
 
 // How many of the keys are found, and the sum of what they lead to.

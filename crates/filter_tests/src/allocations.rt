@@ -11,6 +11,7 @@ use key_base::KeyList;
 use std::alloc::{AllocError, Global};
 use std::test::Fail;
 use surf_filter::SurfFilter;
+use test_kit::is_not_the_last;
 
 // Hash bits, real bits, and levels of both kinds.
 const SETTINGS: Settings = Settings {
@@ -63,11 +64,6 @@ fn is_asked(filter: &Filter) -> bool {
     WORDS.iter().all(|word| filter.may_hold(word))
         && !filter.may_hold(b"a")
         && !filter.may_hold(b"zoo")
-}
-
-// One allocation more, the last of a test: where it is refused, each of those before it was.
-fn is_not_the_last(alloc: Global) -> bool {
-    Vec::from_slice(alloc, b"last").is_ok()
 }
 
 #[test]

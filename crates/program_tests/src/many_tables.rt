@@ -1,10 +1,11 @@
 //! A version of as many tables as there may be.
 use crate::damage::sum_of;
-use crate::runs::{check, formatted, opened, served};
+use crate::runs::{Succinct, check, formatted, opened, served};
 use disk_mem::MemDisk;
 use disk_trait::{Disk, DiskFault};
 use std::alloc::{AllocError, Global};
 use std::test::Fail;
+use store_core::{Limit, Store, StoreError};
 
 // The tables of a version at most, and the bytes of its body before the sum: 64, and 64 for each table.
 const TABLES: u16 = 1_024;
@@ -21,6 +22,22 @@ fn fill(alloc: Global, disk: &mut MemDisk) -> Result<(), Fail> {
         store.flush(disk)?;
     }
     Ok(())
+}
+
+// Puts of the longest value with keys of one byte, until one is refused: why, and how many calls that one made.
+fn refusal(
+    alloc: Global,
+    store: &mut Store<Succinct>,
+    disk: &mut MemDisk,
+) -> Result<Option<(StoreError, usize)>, Fail> {
+    let value = vec![in alloc; 7; 65_536]?;
+    for key in 0..8u8 {
+        let calls = disk.calls();
+        if let Err(why) = store.put(disk, &[key], &value) {
+            return Ok(Some((why, disk.calls().saturating_sub(calls))));
+        }
+    }
+    Ok(None)
 }
 
 // Each row of a body with level 6, and the sum behind it.
@@ -65,5 +82,16 @@ fn no_flush_behind_1024_tables(rt: HostRuntime) -> Result<(), Fail> {
     let end = served(alloc, disk, lines)?;
     let replies = b"ok\nlimit tables\nval 62\nval 62\nok\nval 62\ntables 1 admitted 1 blocks 1\n";
     check(&rt, &end, 0, replies, 0);
+    Ok(())
+}
+
+#[test]
+fn a_put_refused_by_1024_tables_makes_no_call(rt: HostRuntime) -> Result<(), Fail> {
+    let alloc = rt.alloc();
+    let mut disk = formatted(alloc, "format --pages 4096 --variant base")?;
+    fill(alloc, &mut disk)?;
+    let mut store = opened(alloc, &mut disk)?;
+    let refused = refusal(alloc, &mut store, &mut disk)?;
+    assert_eq!(rt; refused, Some((StoreError::Limit(Limit::Tables), 0)));
     Ok(())
 }

@@ -8,6 +8,7 @@ use crate::runs::{Ended, commanded, disk_of, served, stopped};
 use disk_mem::MemDisk;
 use std::alloc::{AllocError, Global};
 use std::test::Fail;
+use test_kit::is_not_the_last;
 
 const MEMORY: &[u8] = b"memory\n";
 
@@ -143,11 +144,6 @@ fn is_played_by_rule(alloc: Global, first: &Ended) -> Result<bool, Fail> {
     let again = found(alloc, end.disk.bytes())?;
     let kept = end.disk.starved() == 0;
     Ok(kept && is_by_rule(end.status, &end.said, &again.said))
-}
-
-// One allocation more, the last of a test: where it is refused, each of those before it was.
-fn is_not_the_last(alloc: Global) -> bool {
-    Vec::from_slice(alloc, b"last").is_ok()
 }
 
 #[test]

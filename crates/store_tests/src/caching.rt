@@ -1,11 +1,12 @@
 //! Blocks that gets keep.
+use crate::scans::DELETED;
 use byte_fields::{Damage, Part};
 use disk_mem::MemDisk;
 use disk_trait::Disk;
 use std::alloc::Global;
 use std::test::Fail;
 use store_core::StoreError;
-use test_stores::{Change, PlainStore, apply, changed, disk_of, opened};
+use test_stores::{Change, PlainStore, apply, changed, disk_of, is_not_the_last, opened};
 
 // How many blocks are read while a key is asked for so many times, where each time it has this value, or none.
 fn reads_of(
@@ -122,25 +123,6 @@ fn damage_is_seen_where_the_block_is_read(rt: HostRuntime) -> Result<(), Fail> {
     Ok(())
 }
 
-// Keys of which the first two are deleted, in three tables of a block each.
-const DELETED: [Change<'static>; 15] = [
-    Change::Put(b"\x01", b"v"),
-    Change::Put(b"\x02", b"v"),
-    Change::Put(b"\x03", b"w"),
-    Change::Put(b"\x04", b"v"),
-    Change::Flush,
-    Change::Put(b"\x05", b"v"),
-    Change::Put(b"\x06", b"v"),
-    Change::Put(b"\x07", b"v"),
-    Change::Put(b"\x08", b"v"),
-    Change::Flush,
-    Change::Put(b"\x09", b"v"),
-    Change::Put(b"\x0a", b"v"),
-    Change::Del(b"\x01"),
-    Change::Del(b"\x02"),
-    Change::Flush,
-];
-
 // How many blocks a closed seek from the first key reads, where the third is the first that is there.
 fn seek_reads(alloc: Global, store: &PlainStore, disk: &mut MemDisk) -> Result<Option<u64>, Fail> {
     let mut scan = Box::new(alloc, store.seek(b"\x01", Some(b"\x0a"))?)?;
@@ -189,5 +171,26 @@ fn at_most_64_blocks_are_kept(rt: HostRuntime) -> Result<(), Fail> {
     assert_eq!(rt; gone, Some(1));
     let kept = reads_of(&mut store, &mut disk, &[2], Some(&value), 1);
     assert_eq!(rt; kept, Some(0));
+    Ok(())
+}
+
+// What two gets of each key find, where one is in two tables, the other in one, and the last in none.
+fn gets_are_answered(store: &mut PlainStore, disk: &mut MemDisk) -> bool {
+    let newest = reads_of(store, disk, b"ab", Some(b"new"), 2);
+    let other = reads_of(store, disk, b"b", Some(b"c"), 2);
+    let missing = reads_of(store, disk, b"z", None, 2);
+    newest.is_some() && other.is_some() && missing.is_some()
+}
+
+// Where a block finds no memory to be kept in it is read again, and the answer is the same. `tools/refuse-allocations` plays it
+// once for each allocation, with that one refused.
+#[test]
+fn each_allocation_of_gets_may_be_refused(rt: HostRuntime) -> Result<(), Fail> {
+    let alloc = rt.alloc();
+    let mut disk = disk_of(alloc, &[])?;
+    let mut store = changed(alloc, &mut disk, &TWO)?;
+    disk.reserve(8, 1 << 16)?;
+    assert!(rt; gets_are_answered(&mut store, &mut disk) && disk.starved() == 0);
+    assert!(rt; is_not_the_last(alloc), "the last allocation");
     Ok(())
 }

@@ -7,7 +7,8 @@ use std::alloc::Global;
 use std::test::Fail;
 use store_core::{Explained, Limit, StoreError, Tended};
 use test_stores::{
-    BASE, Change, Left, PlainStore, apply, changed, disk_of, failing_behind, left_by, opened,
+    BASE, Change, Left, PlainStore, apply, changed, disk_of, failing_behind, is_not_the_last,
+    left_by, opened,
 };
 
 // The gates of the slots, and their bodies.
@@ -493,11 +494,6 @@ fn is_done_or_leaves_the_merge(alloc: Global, change: Reset) -> Result<bool, Fai
             Ok(why == StoreError::Memory && silent && same)
         }
     }
-}
-
-// One allocation more, the last of a test: where it is refused, each of those before it was.
-fn is_not_the_last(alloc: Global) -> bool {
-    Vec::from_slice(alloc, b"last").is_ok()
 }
 
 // `tools/refuse-allocations` plays it once for each allocation, with that one refused.

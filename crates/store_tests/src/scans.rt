@@ -2,35 +2,14 @@
 use byte_fields::{Damage, Part};
 use disk_mem::MemDisk;
 use disk_trait::Disk;
-use plain_filter::PlainFilter;
 use std::alloc::{AllocError, Global};
 use std::test::Fail;
-use store_core::{Limit, Scan, StoreError};
-use test_stores::{Change, PlainStore, changed, disk_of, failing, opened};
-
-type PlainScan<'s> = Scan<'s, PlainFilter>;
+use store_core::{Limit, StoreError};
+use test_stores::{
+    Change, PlainScan, PlainStore, changed, disk_of, failing, opened, range_of, seek_of,
+};
 
 type Pair<'a> = (&'a [u8], &'a [u8]);
-
-// A seek, in a box as its store is.
-fn seek_of<'s>(
-    alloc: Global,
-    store: &'s PlainStore,
-    low: &[u8],
-    high: Option<&[u8]>,
-) -> Result<Box<PlainScan<'s>>, Fail> {
-    Ok(Box::new(alloc, store.seek(low, high)?)?)
-}
-
-fn range_of<'s>(
-    alloc: Global,
-    store: &'s PlainStore,
-    low: &[u8],
-    high: &[u8],
-    most: u64,
-) -> Result<Box<PlainScan<'s>>, Fail> {
-    Ok(Box::new(alloc, store.range(low, high, most)?)?)
-}
 
 // Whether the next step gives this pair, or none.
 fn gives(scan: &mut PlainScan<'_>, disk: &mut MemDisk, want: Option<Pair<'_>>) -> bool {
@@ -40,8 +19,8 @@ fn gives(scan: &mut PlainScan<'_>, disk: &mut MemDisk, want: Option<Pair<'_>>) -
     }
 }
 
-// Keys of which the first two are deleted, in three tables of a block each.
-const DELETED: [Change<'static>; 15] = [
+/// Keys of which the first two are deleted, in three tables of a block each.
+pub const DELETED: [Change<'static>; 15] = [
     Change::Put(b"\x01", b"v"),
     Change::Put(b"\x02", b"v"),
     Change::Put(b"\x03", b"w"),

@@ -10,10 +10,12 @@
 //! ```
 #![tactic(auto)]
 
+mod allocations;
 mod boxes;
 mod disks;
 mod draws;
 
+pub use allocations::is_not_the_last;
 pub use boxes::boxed;
 pub use disks::{Left, crashed, disk_of, failing, failing_disk, left_by, new_disk};
 pub use draws::Numbers;

@@ -7,9 +7,11 @@
 
 mod crashes;
 mod plays;
+mod scans;
 mod stores;
 
 pub use crashes::failing_behind;
 pub use plays::{new_state, played};
+pub use scans::{PlainScan, range_of, seek_of};
 pub use stores::{BASE, Change, PlainStore, apply, changed, opened};
-pub use test_kit::{Left, crashed, disk_of, failing, left_by};
+pub use test_kit::{Left, crashed, disk_of, failing, is_not_the_last, left_by};
