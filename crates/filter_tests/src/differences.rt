@@ -12,7 +12,7 @@ use std::test::Fail;
 use surf_filter::SurfFilter;
 
 // How many pairs of key lists are drawn; no list is empty.
-const PAIRS: u64 = 1_000;
+const PAIRS: u64 = 400;
 
 // How many keys a list has at most.
 const MAX_KEYS: usize = 12;
