@@ -1,4 +1,6 @@
 //! Versions that are formatted, loaded and installed.
+ghost use Rattle.std.specs.Prelude.{◌≤◌};
+
 use crate::disks::{
     base, formatted, install_again, install_tables, loaded_with, new_disk, store, table, version_of,
 };
