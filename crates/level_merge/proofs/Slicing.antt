@@ -1,14 +1,16 @@
 -- A slice, whole: rows were taken, and an output was closed behind them or was not.
-use Rattle.std.proofs.Common.{◌≡◌, ◌∙◌, ℕ, ◌+◌, ◌<◌, ◌≤◌, Bool, true, IsTrue, List, Ok, Err, ap, subst, sym}
+use Rattle.std.proofs.Common.{◌≡◌, ◌∙◌, ℕ, ◌+◌, ◌<◌, ◌≤◌, Bool, true, IsTrue, List, length, Ok, Err, ap, subst, sym}
 use Rattle.disk_trait.specs.World.{ReadMoves, World}
+use Rattle.entry_model.specs.Entries.{Entry}
 use Rattle.extent_map.specs.Taken.{Taken}
 use Rattle.filter_api.specs.Spellings.{Spelling}
+use Rattle.filter_api.specs.declared.settings.Settings.{Settings}
 use Rattle.filter_model.specs.Leaves.{Leaf}
 use Rattle.byte_fields.specs.declared.parts.Row.{Row}
 use Rattle.level_merge.specs.Making.{MakesAnyOutputs}
 use Rattle.level_merge.specs.JobValue.{JobValue, is_full}
 use Rattle.level_merge.specs.Outputs.{IsCloseFault}
-use Rattle.level_merge.specs.SliceSteps.{Closes, FailsBeforeWrite, IsTakeFault, WritesOutput}
+use Rattle.level_merge.specs.SliceSteps.{Closes, FailsBeforeWrite, HasNoRoom, IsTakeFault, WritesOutput, need_of}
 use Rattle.level_merge.specs.SliceContract.{SliceContract}
 use Rattle.level_merge.specs.declared.fault.JobFault.{JobFault}
 use Rattle.level_merge.specs.declared.fault.JobFault.TheVariants as fault
@@ -19,7 +21,7 @@ use Rattle.merge_rows.specs.Merges.{Merge}
 use Rattle.merge_rows.specs.Reads.{OnlyReads, blocks_left}
 use Rattle.merge_rows.specs.Steps.{IsSoundMerge, numbers}
 use Rattle.table_file.specs.Opened.{Opened}
-use Rattle.table_model.specs.Tables.{filter_bytes_of}
+use Rattle.table_model.specs.Tables.{filter_bytes_of, table_pages}
 
 -- what is ready does not work
 abbrev IsAtWork : Sliced → Type 0
@@ -41,6 +43,22 @@ unwritten_of_close need free before here after fault.Memory fails = tt
 unwritten_of_close need free before here after (fault.Device cause) fails = tt
 unwritten_of_close need free before here after (fault.Damaged d) fails = absurd fails
 unwritten_of_close need free before here after (fault.Full wanted gap) fails = tt
+
+-- room is wanted of an output that is closed, and of no row
+room_of_take : (spelling : Spelling) (built_cutoff : ℕ → List Leaf → ℕ) (tells : Bool) (opened : List Opened) (which : List ℕ) (before here : World) (settings : Settings) (free : Taken) (why : JobFault)
+    → IsTakeFault tells opened which before here why → HasNoRoom (filter_bytes_of spelling built_cutoff) settings free.pages free.extents why
+room_of_take spelling built_cutoff tells opened which before here settings free fault.Memory fails = tt
+room_of_take spelling built_cutoff tells opened which before here settings free (fault.Device cause) fails = tt
+room_of_take spelling built_cutoff tells opened which before here settings free (fault.Damaged d) fails = tt
+room_of_take spelling built_cutoff tells opened which before here settings free (fault.Full need gap) fails = absurd fails
+
+room_of_close : (spelling : Spelling) (built_cutoff : ℕ → List Leaf → ℕ) (settings own : Settings) (built : List Entry) (free : Taken) (here after : World) → own ≡ settings → 0 < length built → (why : JobFault)
+    → IsCloseFault (table_pages (filter_bytes_of spelling built_cutoff) own built) free here after why → HasNoRoom (filter_bytes_of spelling built_cutoff) settings free.pages free.extents why
+room_of_close spelling built_cutoff settings own built free here after same some fault.Memory fails = tt
+room_of_close spelling built_cutoff settings own built free here after same some (fault.Device cause) fails = tt
+room_of_close spelling built_cutoff settings own built free here after same some (fault.Damaged d) fails = tt
+room_of_close spelling built_cutoff settings own built free here after same some (fault.Full need gap) fails =
+    ((built, some, fails.0 ∙ ap (λ (s : Settings). table_pages (filter_bytes_of spelling built_cutoff) s built) same), fails.1, subst (λ (n : ℕ). gap < n) (sym fails.0) fails.2)
 
 module _ (spelling : Spelling) (built_cutoff : ℕ → List Leaf → ℕ) (tells : Bool) (blocks : ℕ) (opened : List Opened) (old mid : JobValue) (free : Taken) (before here : World)
     (rest : mid ≡ record old { merge = mid.merge; built = mid.built }) (reads : OnlyReads before here) (level : (1 ≤ old.output) × (old.output ≤ 6))
@@ -71,6 +89,7 @@ module _ (spelling : Spelling) (built_cutoff : ℕ → List Leaf → ℕ) (tells
     moves = slice_reads spelling built_cutoff old mid mid free free before here here rest reads;
     fault = tt;
     unwritten = tt;
+    no_room = tt;
   }
 
   pub had_nothing : blocks_left opened mid.merge.walks ≤ blocks_left opened old.merge.walks
@@ -88,6 +107,7 @@ module _ (spelling : Spelling) (built_cutoff : ℕ → List Leaf → ℕ) (tells
     moves = slice_reads spelling built_cutoff old mid mid free free before here here rest reads;
     fault = tt;
     unwritten = tt;
+    no_room = tt;
   }
 
   pub took_no_row : (why : JobFault) → IsTakeFault tells opened (numbers old.merge.walks) before here why
@@ -105,6 +125,7 @@ module _ (spelling : Spelling) (built_cutoff : ℕ → List Leaf → ℕ) (tells
     moves = slice_reads spelling built_cutoff old mid mid free free before here here rest reads;
     fault = fault_of_take tells opened (numbers old.merge.walks) before here why fails;
     unwritten = unwritten_of_take before here why reads;
+    no_room = room_of_take spelling built_cutoff tells opened (numbers old.merge.walks) before here old.settings free why fails;
   }
 
   -- ---- an output was to be closed
@@ -132,6 +153,7 @@ module _ (spelling : Spelling) (built_cutoff : ℕ → List Leaf → ℕ) (tells
       moves = slice_writes spelling built_cutoff old mid new free extents before here after rest reads writes;
       fault = tt;
       unwritten = tt;
+      no_room = tt;
     }
 
     pub closed_last : (row : Row) → Closes spelling built_cutoff mid new free extents row → blocks_left opened mid.merge.walks ≤ blocks_left opened old.merge.walks
@@ -149,12 +171,13 @@ module _ (spelling : Spelling) (built_cutoff : ℕ → List Leaf → ℕ) (tells
       moves = slice_writes spelling built_cutoff old mid new free extents before here after rest reads writes;
       fault = tt;
       unwritten = tt;
+      no_room = tt;
     }
 
-    pub closed_none : (need : ℕ) (why : JobFault) → IsCloseFault need free here after why
+    pub closed_none : 0 < length mid.built → (why : JobFault) → IsCloseFault (need_of spelling built_cutoff mid) free here after why
         → (IsTrue tells → MakesAnyOutputs spelling (filter_bytes_of spelling built_cutoff) opened old new free extents (Err why) before after)
         → SliceContract spelling built_cutoff tells blocks opened old new free extents (Err why) before after
-    closed_none need why fails makes = record {
+    closed_none some why fails makes = record {
       makes = makes;
       bounded = bounded_on;
       ends = tt;
@@ -164,6 +187,7 @@ module _ (spelling : Spelling) (built_cutoff : ℕ → List Leaf → ℕ) (tells
       few = tt;
       rows = λ _. tt;
       moves = slice_writes spelling built_cutoff old mid new free extents before here after rest reads writes;
-      fault = fault_of_close tells opened (numbers old.merge.walks) need free before here after why reads fails;
-      unwritten = unwritten_of_close need free before here after why fails;
+      fault = fault_of_close tells opened (numbers old.merge.walks) (need_of spelling built_cutoff mid) free before here after why reads fails;
+      unwritten = unwritten_of_close (need_of spelling built_cutoff mid) free before here after why fails;
+      no_room = room_of_close spelling built_cutoff old.settings mid.settings mid.built free here after same_settings some why fails;
     }

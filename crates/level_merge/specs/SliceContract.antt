@@ -7,7 +7,7 @@ use Rattle.filter_api.specs.Spellings.{Spelling}
 use Rattle.filter_model.specs.Leaves.{Leaf}
 use Rattle.level_merge.specs.Making.{MakesAnyOutputs}
 use Rattle.level_merge.specs.JobValue.{AreAllWritten, JobValue, work_left}
-use Rattle.level_merge.specs.SliceSteps.{FailsBeforeWrite, IsSliceFault, MayMakeAsMany, SliceMoves}
+use Rattle.level_merge.specs.SliceSteps.{FailsBeforeWrite, HasNoRoom, IsSliceFault, MayMakeAsMany, SliceMoves}
 use Rattle.level_merge.specs.declared.fault.JobFault.{JobFault}
 use Rattle.level_merge.specs.declared.fault.Sliced.{Sliced}
 use Rattle.level_merge.specs.declared.fault.Sliced.TheVariants.{Working}
@@ -31,3 +31,4 @@ pub record SliceContract (spelling : Spelling) (built_cutoff : ℕ → List Leaf
   pub moves : SliceMoves spelling built_cutoff old new free taken before after
   pub fault : IfErr result (IsSliceFault tells opened (numbers old.merge.walks) before after)
   pub unwritten : IfErr result (FailsBeforeWrite before after)
+  pub no_room : IfErr result (HasNoRoom (filter_bytes_of spelling built_cutoff) old.settings free.pages free.extents)

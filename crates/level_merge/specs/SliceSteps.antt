@@ -11,8 +11,10 @@ use Rattle.disk_trait.specs.World.{Moves, Rose, World}
 use Rattle.disk_trait.specs.declared.fault.Op.TheVariants.{Read}
 use Rattle.entry_model.specs.Entries.{Entry}
 use Rattle.extent_map.specs.Taken.{Taken}
-use Rattle.extent_model.specs.Extents.{AreApart, IsOnDevice}
+use Rattle.extent_model.specs.Extents.{AreApart, Extent, IsOnDevice}
+use Rattle.extent_model.specs.Gaps.{largest_gap}
 use Rattle.filter_api.specs.Spellings.{Spelling}
+use Rattle.filter_api.specs.declared.settings.Settings.{Settings}
 use Rattle.filter_model.specs.Leaves.{Leaf}
 use Rattle.level_merge.specs.Outputs.{PlacesOutput, WritesPlaced, built_table, extent_at}
 use Rattle.level_merge.specs.JobValue.{JobValue, is_full, outputs_left, outputs_with}
@@ -31,7 +33,7 @@ use Rattle.table_file.specs.Opened.{Opened}
 use Rattle.table_file.specs.Search.{IsGetFault}
 use Rattle.table_file.specs.Writing.{made_row, opened_of}
 use Rattle.table_file.specs.declared.fault.TableFault.TheVariants as table
-use Rattle.table_model.specs.Tables.{Table, filter_bytes_of, table_pages}
+use Rattle.table_model.specs.Tables.{FilterBytes, Table, filter_bytes_of, table_pages}
 
 -- ---- rows
 
@@ -140,3 +142,12 @@ FailsBeforeWrite old new fault.Memory = Unit {0}
 FailsBeforeWrite old new (fault.Device cause) = Unit {0}
 FailsBeforeWrite old new (fault.Damaged d) = new.seen.held ≡ old.seen.held
 FailsBeforeWrite old new (fault.Full need gap) = Unit {0}
+
+-- Want of room: it is that of the pages of an output, which has an entry or more under these settings, and the largest gap beside
+-- these extents has fewer.
+abbrev pub HasNoRoom : FilterBytes → Settings → ℕ → List Extent → JobFault → Type 0
+HasNoRoom filter_bytes settings pages extents fault.Memory = Unit {0}
+HasNoRoom filter_bytes settings pages extents (fault.Device cause) = Unit {0}
+HasNoRoom filter_bytes settings pages extents (fault.Damaged d) = Unit {0}
+HasNoRoom filter_bytes settings pages extents (fault.Full need gap) =
+    ((output : List Entry) × (0 < length output) × (need ≡ table_pages filter_bytes settings output)) × (gap ≡ largest_gap pages extents) × (gap < need)

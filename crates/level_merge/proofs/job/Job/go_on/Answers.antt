@@ -1,7 +1,7 @@
 use Rattle.std.proofs.Common.{◌≡◌, ◌∙◌, ◌<◌, ◌-◌, ℕ, inl, true, false, [], length, refl, sym, ap, subst}
 use Rattle.level_merge.specs.JobValue.{JobValue, is_full}
 use Rattle.level_merge.specs.Outputs.{last_row}
-use Rattle.level_merge.specs.SliceSteps.{IsStop, need_of}
+use Rattle.level_merge.specs.SliceSteps.{IsStop}
 use Rattle.level_merge.specs.declared.fault.Sliced.TheVariants as sliced
 use Rattle.level_merge.specs.declared.taking.Stop.{Stop}
 use Rattle.level_merge.proofs.OutputLists.{full_has}
@@ -115,7 +115,7 @@ returns-in-Err-close g c =
     let full : is_full mid.beside mid.built ≡ true = subst (λ (n : ℕ). is_full n mid.built ≡ true) (sym (ap (λ (m : JobValue). m.beside) c.take_rows.ensures.rest)) why in
     let later = outputs_of (mid.beside - 1) (lasting mid.drops (rows_left mid.merge opened before.seen.held)) in
     closed_none spelling cutoff tells c.args.blocks opened old mid free before here c.take_rows.ensures.rest reads c.take_rows.ensures.level c.take_rows.ensures.numbers c.take_rows.ensures.bounded new extents after c.close.ensures.merge c.close.ensures.same c.close.ensures.writes
-    (need_of spelling cutoff mid) c.in-Err-close.why c.in-Err-close.ensures.fault
+    (full_has old.beside mid.built why) c.in-Err-close.why c.in-Err-close.ensures.fault
     (λ t tables left made others held makes taken.
     let first = next_output standing spelling cutoff opened tables old mid left made others free before here tells t held makes taken takes reads full in
     close_refused standing spelling cutoff opened tables old mid left made others free before here tells t held makes taken takes reads later first after c.in-Err-close.why c.in-Err-close.ensures.fault)
@@ -196,7 +196,7 @@ returns-in-Err-close-2 g c =
     let whole = sym takes.sources.drops_are ∙ subst (λ (m : JobValue). m.merge.drops ≡ false) c.self.view_is c.self.invariant.whole in
     let some = subst (λ (m : JobValue). 0 < length m.built) c.self.view_is (some_length c.self.inside.built.entries (sym c.is_empty.ensures ∙ c.if-is_empty.false)) in
     closed_none spelling cutoff tells c.args.blocks opened old mid free before here c.take_rows.ensures.rest reads c.take_rows.ensures.level c.take_rows.ensures.numbers c.take_rows.ensures.bounded new extents after c.close-in-Ok-End.ensures.merge c.close-in-Ok-End.ensures.same c.close-in-Ok-End.ensures.writes
-    (need_of spelling cutoff mid) c.in-Err-close-2.why c.in-Err-close-2.ensures.fault
+    some c.in-Err-close-2.why c.in-Err-close-2.ensures.fault
     (λ t tables left made others held makes taken.
     let none = why t makes.sound in
     let first = last_output standing spelling cutoff opened tables old mid left made others free before here tells t held makes taken takes reads whole none some in
