@@ -1,5 +1,5 @@
 -- What a get leaves of a store.
-use Rattle.std.proofs.Common.{◌≡◌, ◌≤◌, ◌+◌, ◌++◌, ℕ, Bool, true, false, List, length, take, sym, ap, subst, ◌∙◌, arith}
+use Rattle.std.proofs.Common.{◌≡◌, ◌≤◌, ◌+◌, ◌++◌, ℕ, Bool, true, false, List, length, take, refl, sym, ap, subst, ◌∙◌, arith}
 use Rattle.std.proofs.Math.Seq.{take-append_seam}
 use Rattle.std.specs.Option.{option_map, option_or}
 use Rattle.std.specs.Prelude.{is_some, IsTrue, Option, None, Result, Ok, Err}
@@ -16,13 +16,14 @@ use Rattle.state_model.specs.State.{State}
 use Rattle.state_model.specs.View.{first_found, memory, view}
 use Rattle.store_core.specs.Caching.{AreNumbered, CacheAgrees, Cached, unkept}
 use Rattle.store_core.specs.Faults.{of_table_fault}
-use Rattle.store_core.specs.Getting.{GetsKey, IsFaultIn, IsGetRefusal, IsLookFault, IsMet, IsShown, IsUndamaged, entries_by_table, said_at, said_in, unkept_bound}
+use Rattle.store_core.specs.Getting.{Asked, GetsKey, IsFaultIn, IsGetRefusal, IsLookFault, IsMet, IsShown, IsUndamaged, entries_by_table, said_at, said_in, unkept_bound}
 use Rattle.store_core.specs.StoreValue.{IsConsistent, StoreValue}
 use Rattle.level_merge.specs.TablesAgree.{TablesAgree}
 use Rattle.store_core.specs.Represents.{Represents}
 use Rattle.store_core.specs.declared.error.StoreError.{StoreError}
 use Rattle.store_core.specs.declared.getting.Place.{Place}
 use Rattle.store_core.specs.declared.getting.Spot.{Spot}
+use Rattle.store_core.proofs.Caches.{left_itself}
 use Rattle.store_core.proofs.Lookings.{none_of}
 use Rattle.store_core.proofs.ReadBounds.{bound_is}
 use Rattle.store_core.proofs.ShownBlocks.{told_fault}
@@ -44,6 +45,10 @@ whole_asked store buffer blocks numbered whole = record {
   job = whole.job;
   numbered = numbered;
 }
+
+-- where nothing is looked for
+pub asked_still : (spelling : Spelling) (bytes : FilterBytes) (tells : Bool) (store : StoreValue) (w : World) → Asked spelling bytes tells store store w w
+asked_still spelling bytes tells store w = record { same = refl; kept = left_itself store.blocks; tied = λ s told tied. tied }
 
 -- and they say what their tables say
 pub tied_asked : (spelling : Spelling) (bytes : FilterBytes) (store after : StoreValue) (s : State) (n : ℕ) (a b : World) → after ≡ record store { buffer = after.buffer; blocks = after.blocks }

@@ -1,5 +1,5 @@
 -- What is looked for in tables of which some blocks are kept.
-use Rattle.std.proofs.Common.{◌≡◌, ◌≤◌, ◌<◌, ◌+◌, ℕ, suc, Bool, true, false, cond, List, [], ◌∷◌, length, take, refl, sym, ap, subst, ◌∙◌, arith}
+use Rattle.std.proofs.Common.{◌≡◌, inl, inr, ◌≤◌, ◌<◌, ◌+◌, ℕ, suc, Bool, true, false, cond, List, [], ◌∷◌, length, take, refl, sym, ap, subst, ◌∙◌, arith}
 use Rattle.std.specs.Bool.{then_some}
 use Rattle.std.specs.Option.{option_map, option_or}
 use Rattle.std.specs.Prelude.{is_some, IfSome, Option, Some, None}
@@ -13,7 +13,7 @@ use Rattle.filter_api.specs.Spellings.{Spelling}
 use Rattle.map_model.specs.SortedMap.{Bytes}
 use Rattle.state_model.specs.Bounds.{searched, unless_found}
 use Rattle.state_model.specs.View.{first_found}
-use Rattle.store_core.specs.Caching.{AreNumbered, AreSame, BlockAgrees, CacheAgrees, Cached, SaysOf, cache_number, past_cache, reads_for, said_by, unkept}
+use Rattle.store_core.specs.Caching.{AreNumbered, AreSame, BlockAgrees, CacheAgrees, Cached, LeavesKept, SaysOf, cache_number, past_cache, reads_for, said_by, unkept}
 use Rattle.store_core.specs.Getting.{IsBlockIn, IsFoundAt, IsReadIn, IsSpotIn, MayKeepRead, entries_by_table, said_in}
 use Rattle.level_merge.specs.TablesAgree.{TableAgrees, TablesAgree}
 use Rattle.store_core.specs.declared.getting.BlockRead.{BlockRead}
@@ -123,6 +123,11 @@ module _ (read : Option BlockRead) (buffer : Bytes) (old mid new : Cached) (same
       by_read : (o : Option BlockRead) → MayKeepRead o buffer mid new → IfSome o (λ r. IsReadIn r buffer mid tables) → AreNumbered new tables
       by_read None stays _ = subst (λ (c : Cached). AreNumbered c tables) (sym stays) now
       by_read (Some r) more of = numbered_kept (r.number, r.block) (take r.size buffer) mid new tables more of.given now
+
+-- no kept block is lost but to that one
+pub kept_left : (read : Option BlockRead) (buffer : Bytes) (old mid new : Cached) → AreSame old mid → MayKeepRead read buffer mid new → LeavesKept old new
+kept_left None buffer old mid new same keeps = record { mid = mid; same = same; more = inl keeps }
+kept_left (Some r) buffer old mid new same keeps = record { mid = mid; same = same; more = inr ((r.number, r.block), take r.size buffer, keeps) }
 
 -- what was found stays
 pub said_stays : (found : Option Spot) (read : Option BlockRead) (buffer key : Bytes) (mid new : Cached) (tables : ℕ) → IfSome found (λ at. IsFoundAt at buffer mid.kept key)

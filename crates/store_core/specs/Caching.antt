@@ -40,6 +40,12 @@ pub record AreSame (old new : Cached) : Type 0 where
 abbrev pub MayKeep : BlockPlace → Bytes → Cached → Cached → Type 0
 MayKeep place bytes old new = (new ≡ old) ⊎ ((place.0 < past_cache) × (new ≡ record old { kept = with_kept place bytes old.kept }))
 
+-- What a get leaves of the kept blocks: the same ones, some brought first, and a block more, if any.
+pub record LeavesKept (old new : Cached) : Type 0 where
+  pub mid : Cached
+  pub same : AreSame old mid
+  pub more : (new ≡ mid) ⊎ ((place : BlockPlace) × (bytes : Bytes) × MayKeep place bytes mid new)
+
 -- ---- what is so of kept blocks
 
 -- none breaks a rule

@@ -13,7 +13,7 @@ ghost use Rattle.map_model.specs.SortedMap.{Bytes, get};
 ghost use Rattle.state_model.specs.Bounds.{searched};
 ghost use Rattle.state_model.specs.State.{State};
 ghost use Rattle.state_model.specs.View.{first_found, state_map, view};
-ghost use Rattle.store_core.specs.Caching.{AreNumbered, AreSame, BlockAgrees, CacheAgrees, IsFirst, SaysOf, cache_number, past_cache, reads_for, said_by, unkept};
+ghost use Rattle.store_core.specs.Caching.{AreNumbered, AreSame, BlockAgrees, CacheAgrees, IsFirst, LeavesKept, SaysOf, cache_number, past_cache, reads_for, said_by, unkept};
 ghost use Rattle.store_core.specs.Getting.{IsBlockFault, IsBlockIn, IsFaultIn, IsFoundAt, IsLookFault, IsPlaceIn, IsReadIn, IsSpotIn, MayKeepRead, entries_by_table, said_at, said_in};
 ghost use Rattle.store_core.specs.StoreValue.{StoreValue};
 ghost use Rattle.level_merge.specs.TablesAgree.{TablesAgree};
@@ -219,6 +219,7 @@ fn look_and_keep<F: RangeFilter, D: Disk>(
     requires room { largest_block ≤ length buffer.old }
     ensures place { IfOk result (λ found. IfSome found (λ spot. IsSpotIn spot buffer.new)) }
     ensures length { length buffer.new ≡ length buffer.old }
+    ensures kept { LeavesKept blocks.old blocks.new }
     ensures numbered { AreNumbered blocks.old (length tables.now) → AreNumbered blocks.new (length tables.now) }
     ensures keeps { (states : List model.Table) → IsTrue D.tells → TablesAgree F.spelling tables.now states (D.world disk.old).seen.held → CacheAgrees blocks.old tables.now states
         → CacheAgrees blocks.new tables.now states }
