@@ -15,7 +15,7 @@ use Rattle.state_model.specs.Bounds.{get_bound, unless_found}
 use Rattle.state_model.specs.State.{State}
 use Rattle.state_model.specs.View.{memory}
 use Rattle.store_core.specs.Answers.{told_limit}
-use Rattle.store_core.specs.Caching.{Cached, IsFirst, LeavesKept, MayKeep, cache_number, past_cache, said_by, unkept}
+use Rattle.store_core.specs.Caching.{Cached, IsFirst, LeavesKept, MayKeep, cache_number, past_cache, said_by, unkept, unkept_named}
 use Rattle.store_core.specs.StoreValue.{StoreValue}
 use Rattle.store_core.specs.Represents.{Represents}
 use Rattle.store_core.specs.declared.getting.BlockRead.{BlockRead}
@@ -179,3 +179,5 @@ pub record GetsKey {T : Type 0} (spelling : Spelling) (filter_bytes : FilterByte
   -- a stopped store reads nothing
   pub no_call : store.stopped ≡ true → ReadMoves 0 before after
   pub moves : ReadMoves (length store.tables) before after
+  -- whatever the device is, it reads only of tables that name a block for the key which is not kept
+  pub named : after.seen.reads ≤ before.seen.reads + unkept_named store.blocks key store.tables
