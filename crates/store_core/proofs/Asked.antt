@@ -1,10 +1,11 @@
 -- What a get leaves of a store.
-use Rattle.std.proofs.Common.{◌≡◌, ◌≤◌, ◌+◌, ◌++◌, ℕ, Bool, true, false, List, length, take, sym, ap, subst, ◌∙◌, arith}
+use Rattle.std.proofs.Common.{◌≡◌, ◌≤◌, ◌+◌, ◌++◌, ℕ, Bool, true, false, List, length, take, refl, sym, ap, subst, ◌∙◌, arith}
 use Rattle.std.proofs.Math.Seq.{take-append_seam}
 use Rattle.std.specs.Option.{option_map, option_or}
 use Rattle.std.specs.Prelude.{is_some, IsTrue, Option, None, Result, Ok, Err}
 use Rattle.std.specs.Result.{IsErrAnd}
 use Rattle.block_cache.specs.Kept.{KeptBlock}
+use Rattle.disk_trait.proofs.Calls.{reads_more}
 use Rattle.disk_trait.specs.World.{ReadMoves, World}
 use Rattle.entry_model.specs.Entries.{Entry}
 use Rattle.entry_model.specs.Newest.{lookup}
@@ -14,16 +15,17 @@ use Rattle.map_model.specs.SortedMap.{Bytes}
 use Rattle.state_model.specs.Bounds.{get_bound, searched, unless_found}
 use Rattle.state_model.specs.State.{State}
 use Rattle.state_model.specs.View.{first_found, memory, view}
-use Rattle.store_core.specs.Caching.{AreNumbered, CacheAgrees, Cached, unkept}
+use Rattle.store_core.specs.Caching.{AreNumbered, CacheAgrees, Cached, unkept, unkept_named}
 use Rattle.store_core.specs.Faults.{of_table_fault}
-use Rattle.store_core.specs.Getting.{GetsKey, IsFaultIn, IsGetRefusal, IsLookFault, IsMet, IsShown, IsUndamaged, entries_by_table, said_at, said_in, unkept_bound}
+use Rattle.store_core.specs.Getting.{Asked, GetsKey, IsFaultIn, IsGetRefusal, IsLookFault, IsMet, IsShown, IsUndamaged, entries_by_table, said_at, said_in, unkept_bound}
 use Rattle.store_core.specs.StoreValue.{IsConsistent, StoreValue}
 use Rattle.level_merge.specs.TablesAgree.{TablesAgree}
 use Rattle.store_core.specs.Represents.{Represents}
 use Rattle.store_core.specs.declared.error.StoreError.{StoreError}
 use Rattle.store_core.specs.declared.getting.Place.{Place}
 use Rattle.store_core.specs.declared.getting.Spot.{Spot}
-use Rattle.store_core.proofs.Lookings.{none_of}
+use Rattle.store_core.proofs.Caches.{left_itself}
+use Rattle.store_core.proofs.Lookings.{named_few, none_of}
 use Rattle.store_core.proofs.ReadBounds.{bound_is}
 use Rattle.store_core.proofs.ShownBlocks.{told_fault}
 use Rattle.store_core.proofs.Ties.{tied_read}
@@ -44,6 +46,10 @@ whole_asked store buffer blocks numbered whole = record {
   job = whole.job;
   numbered = numbered;
 }
+
+-- where nothing is looked for
+pub asked_still : (spelling : Spelling) (bytes : FilterBytes) (tells : Bool) (store : StoreValue) (w : World) → Asked spelling bytes tells store store w w
+asked_still spelling bytes tells store w = record { same = refl; kept = left_itself store.blocks; tied = λ s told tied. tied }
 
 -- and they say what their tables say
 pub tied_asked : (spelling : Spelling) (bytes : FilterBytes) (store after : StoreValue) (s : State) (n : ℕ) (a b : World) → after ≡ record store { buffer = after.buffer; blocks = after.blocks }
@@ -114,7 +120,7 @@ module _ (spelling : Spelling) (filter_bytes : FilterBytes) (tells : Bool) (stor
   pub true_of : (s : State) → Represents spelling filter_bytes store s a → CacheAgrees blocks opened s.tables
   true_of s tied = subst (λ (c : Cached). CacheAgrees c opened s.tables) (sym same_blocks) (subst (λ (ts : List Opened). CacheAgrees store.blocks ts s.tables) (sym same_tables) tied.blocks)
 
-  module _ (runs : store.stopped ≡ false) (limit : key_limit key ≡ None) (none : (s : State) → store.memory.entries ≡ memory s → lookup (memory s) key ≡ None) (moves : ReadMoves (length opened) a b)
+  module _ (runs : store.stopped ≡ false) (limit : key_limit key ≡ None) (none : (s : State) → store.memory.entries ≡ memory s → lookup (memory s) key ≡ None) (moves : ReadMoves (unkept_named blocks key opened) a b)
       (within : (states : List Table) → IsTrue tells → TablesAgree spelling opened states a.seen.held → CacheAgrees blocks opened states
       → b.seen.reads ≤ a.seen.reads + searched key states)
       (bounded : (states : List Table) → IsTrue tells → TablesAgree spelling opened states a.seen.held → CacheAgrees blocks opened states
@@ -130,7 +136,12 @@ module _ (spelling : Spelling) (filter_bytes : FilterBytes) (tells : Bool) (stor
     still_of stopped = absurd (let is : false ≡ true = sym runs ∙ stopped in cc)
 
     moves_of : ReadMoves (length store.tables) a b
-    moves_of = subst (λ (ts : List Opened). ReadMoves (length ts) a b) same_tables moves
+    moves_of = subst (λ (ts : List Opened). ReadMoves (length ts) a b) same_tables (reads_more _ _ a b (named_few blocks key opened) moves)
+
+    named_of : b.seen.reads ≤ a.seen.reads + unkept_named store.blocks key store.tables
+    named_of =
+        subst (λ (ts : List Opened). b.seen.reads ≤ a.seen.reads + unkept_named store.blocks key ts) same_tables
+        (subst (λ (c : Cached). b.seen.reads ≤ a.seen.reads + unkept_named c key opened) same_blocks moves.reads)
 
     pub gets_found : {T : Type 0} (found : T) → GetsKey spelling filter_bytes tells store key (Ok found) a b
     gets_found found = record {
@@ -142,6 +153,7 @@ module _ (spelling : Spelling) (filter_bytes : FilterBytes) (tells : Bool) (stor
       unkept = unkept_of;
       no_call = still_of;
       moves = moves_of;
+      named = named_of;
     }
 
     -- and a table could not be looked through
@@ -162,4 +174,5 @@ module _ (spelling : Spelling) (filter_bytes : FilterBytes) (tells : Bool) (stor
       unkept = unkept_of;
       no_call = still_of;
       moves = moves_of;
+      named = named_of;
     }

@@ -6,7 +6,7 @@ use Rattle.block_cache.proofs.Gives.{by_place, found_here, not_found_here, get_s
 use Rattle.block_cache.proofs.Places.{same_place}
 use Rattle.block_model.specs.BlockReading.{block_fault}
 use Rattle.map_model.specs.SortedMap.{Bytes}
-use Rattle.store_core.specs.Caching.{AreNumbered, AreSame, AreSound, BlockAgrees, CacheAgrees, Cached, IsFirst, MayKeep, cache_number, none_cached, past_cache, renumbered}
+use Rattle.store_core.specs.Caching.{AreNumbered, AreSame, AreSound, BlockAgrees, CacheAgrees, Cached, IsFirst, LeavesKept, MayKeep, cache_number, none_cached, past_cache, renumbered}
 use Rattle.table_file.specs.Opened.{Opened}
 use Rattle.table_model.specs.Tables.{Table}
 
@@ -29,6 +29,12 @@ same_itself blocks = record { first = refl; kept = λ place. refl }
 
 pub same_then : (a b c : Cached) → AreSame a b → AreSame b c → AreSame a c
 same_then a b c ab bc = record { first = bc.first ∙ ab.first; kept = λ place. bc.kept place ∙ ab.kept place }
+
+pub left_same : (old new : Cached) → AreSame old new → LeavesKept old new
+left_same old new same = record { mid = new; same = same; more = inl refl }
+
+pub left_itself : (blocks : Cached) → LeavesKept blocks blocks
+left_itself blocks = left_same blocks blocks (same_itself blocks)
 
 pub brought_same : (place : BlockPlace) (blocks : Cached) → AreSame blocks (record blocks { kept = brought_first place blocks.kept })
 brought_same place blocks = record { first = refl; kept = λ other. get_same place other blocks.kept }

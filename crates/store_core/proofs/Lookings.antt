@@ -1,19 +1,21 @@
 -- What is looked for in tables of which some blocks are kept.
-use Rattle.std.proofs.Common.{◌≡◌, ◌≤◌, ◌<◌, ◌+◌, ℕ, suc, Bool, true, false, cond, List, [], ◌∷◌, length, take, refl, sym, ap, subst, ◌∙◌, arith}
+use Rattle.std.proofs.Common.{◌≡◌, inl, inr, ◌≤◌, ◌<◌, ◌+◌, ℕ, suc, Bool, true, false, cond, List, [], ◌∷◌, length, take, refl, sym, ap, subst, ◌∙◌, arith}
 use Rattle.std.specs.Bool.{then_some}
 use Rattle.std.specs.Option.{option_map, option_or}
 use Rattle.std.specs.Prelude.{is_some, IfSome, Option, Some, None}
 use Rattle.block_cache.specs.Kept.{BlockPlace, KeptBlock, kept_of}
 use Rattle.block_model.specs.BlockReading.{block_in}
 use Rattle.block_model.specs.Laws.{joined}
+use Rattle.disk_trait.proofs.Calls.{reads_more, reads_then}
 use Rattle.disk_trait.specs.Image.{Image}
+use Rattle.disk_trait.specs.World.{ReadMoves, World}
 use Rattle.entry_model.specs.Entries.{Entry}
 use Rattle.entry_model.specs.Newest.{lookup}
 use Rattle.filter_api.specs.Spellings.{Spelling}
 use Rattle.map_model.specs.SortedMap.{Bytes}
 use Rattle.state_model.specs.Bounds.{searched, unless_found}
 use Rattle.state_model.specs.View.{first_found}
-use Rattle.store_core.specs.Caching.{AreNumbered, AreSame, BlockAgrees, CacheAgrees, Cached, SaysOf, cache_number, past_cache, reads_for, said_by, unkept}
+use Rattle.store_core.specs.Caching.{AreNumbered, AreSame, BlockAgrees, CacheAgrees, Cached, LeavesKept, SaysOf, cache_number, past_cache, reads_for, said_by, unkept, unkept_named}
 use Rattle.store_core.specs.Getting.{IsBlockIn, IsFoundAt, IsReadIn, IsSpotIn, MayKeepRead, entries_by_table, said_in}
 use Rattle.level_merge.specs.TablesAgree.{TableAgrees, TablesAgree}
 use Rattle.store_core.specs.declared.getting.BlockRead.{BlockRead}
@@ -88,6 +90,27 @@ pub unkept_next : (blocks : Cached) (key : Bytes) (first : Opened) (more : List 
 unkept_next blocks key first more t older none =
     ap (λ (o : Option (Option Bytes)). reads_for blocks.kept (cache_number blocks.first (length more)) (block_for first key) + unless_found o (unkept blocks key more older)) none
 
+pub named_same : (old new : Cached) (key : Bytes) (opened : List Opened) → AreSame old new → unkept_named new key opened ≡ unkept_named old key opened
+named_same old new key [] same = refl
+named_same old new key (o ∷ more) same =
+    ap (λ (n : ℕ). reads_for new.kept (cache_number n (length more)) (block_for o key) + unkept_named new key more) same.first
+    ∙ ap (λ (r : ℕ). r + unkept_named new key more) (reads_same old new (cache_number old.first (length more)) (block_for o key) same)
+    ∙ ap (λ (u : ℕ). reads_for old.kept (cache_number old.first (length more)) (block_for o key) + u) (named_same old new key more same)
+
+-- whatever the device is
+module _ (blocks : Cached) (key : Bytes) (first : Opened) (more tables : List Opened) (split : tables ≡ first ∷ more) (number : ℕ) (is : number ≡ cache_number blocks.first (length more)) (a b : World)
+    (here : ReadMoves (reads_for blocks.kept number (block_for first key)) a b) where
+  of_number : ReadMoves (reads_for blocks.kept (cache_number blocks.first (length more)) (block_for first key)) a b
+  of_number = subst (λ (n : ℕ). ReadMoves (reads_for blocks.kept n (block_for first key)) a b) is here
+
+  pub named_first : ReadMoves (unkept_named blocks key tables) a b
+  named_first = subst (λ (ts : List Opened). ReadMoves (unkept_named blocks key ts) a b) (sym split) (reads_more _ _ a b (omega arith) of_number)
+
+  pub named_next : (mid : Cached) → AreSame blocks mid → (d : World) → ReadMoves (unkept_named mid key more) b d → ReadMoves (unkept_named blocks key tables) a d
+  named_next mid same d later =
+      subst (λ (ts : List Opened). ReadMoves (unkept_named blocks key ts) a d) (sym split)
+      (reads_then _ _ a b d of_number (subst (λ (n : ℕ). ReadMoves n b d) (named_same blocks mid key more same) later))
+
 -- ---- the block that was read last
 
 -- one of the first table
@@ -123,6 +146,11 @@ module _ (read : Option BlockRead) (buffer : Bytes) (old mid new : Cached) (same
       by_read : (o : Option BlockRead) → MayKeepRead o buffer mid new → IfSome o (λ r. IsReadIn r buffer mid tables) → AreNumbered new tables
       by_read None stays _ = subst (λ (c : Cached). AreNumbered c tables) (sym stays) now
       by_read (Some r) more of = numbered_kept (r.number, r.block) (take r.size buffer) mid new tables more of.given now
+
+-- no kept block is lost but to that one
+pub kept_left : (read : Option BlockRead) (buffer : Bytes) (old mid new : Cached) → AreSame old mid → MayKeepRead read buffer mid new → LeavesKept old new
+kept_left None buffer old mid new same keeps = record { mid = mid; same = same; more = inl keeps }
+kept_left (Some r) buffer old mid new same keeps = record { mid = mid; same = same; more = inr ((r.number, r.block), take r.size buffer, keeps) }
 
 -- what was found stays
 pub said_stays : (found : Option Spot) (read : Option BlockRead) (buffer key : Bytes) (mid new : Cached) (tables : ℕ) → IfSome found (λ at. IsFoundAt at buffer mid.kept key)
@@ -171,6 +199,10 @@ read_as kept number n named has is so = ap (reads_for kept number) is ∙ ap (λ
 pub at_most_one : (kept : List KeptBlock) (number : ℕ) (named : Option ℕ) → reads_for kept number named ≤ 1
 at_most_one kept number None = omega arith
 at_most_one kept number (Some n) = elim (is_some (kept_of (number, n) kept)) as (λ b. cond b 0 1 ≤ 1) [ true ↦ omega arith | false ↦ omega arith ]
+
+pub named_few : (blocks : Cached) (key : Bytes) (opened : List Opened) → unkept_named blocks key opened ≤ length opened
+named_few blocks key [] = omega arith
+named_few blocks key (o ∷ more) = omega (arith, at_most_one blocks.kept (cache_number blocks.first (length more)) (block_for o key), named_few blocks key more)
 
 -- ---- the first of some tables was looked in
 

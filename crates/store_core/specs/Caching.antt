@@ -40,6 +40,12 @@ pub record AreSame (old new : Cached) : Type 0 where
 abbrev pub MayKeep : BlockPlace → Bytes → Cached → Cached → Type 0
 MayKeep place bytes old new = (new ≡ old) ⊎ ((place.0 < past_cache) × (new ≡ record old { kept = with_kept place bytes old.kept }))
 
+-- What a get leaves of the kept blocks: the same ones, some brought first, and a block more, if any.
+pub record LeavesKept (old new : Cached) : Type 0 where
+  pub mid : Cached
+  pub same : AreSame old mid
+  pub more : (new ≡ mid) ⊎ ((place : BlockPlace) × (bytes : Bytes) × MayKeep place bytes mid new)
+
 -- ---- what is so of kept blocks
 
 -- none breaks a rule
@@ -80,6 +86,12 @@ IsFirst place kept = (bytes : Bytes) × (rest : List KeptBlock) × (kept ≡ (pl
 abbrev pub reads_for : List KeptBlock → ℕ → Option ℕ → ℕ
 reads_for kept number None = 0
 reads_for kept number (Some n) = if is_some (kept_of (number, n) kept) then 0 else 1
+
+-- the blocks that tables name for a key and that are not kept: at most one of each table whose filter admits it and whose keys
+-- enclose it
+abbrev pub unkept_named : Cached → Bytes → List Opened → ℕ
+unkept_named blocks key [] = 0
+unkept_named blocks key (opened ∷ more) = reads_for blocks.kept (cache_number blocks.first (length more)) (block_for opened key) + unkept_named blocks key more
 
 -- the blocks that are searched for a key, up to that of the first table that has it, and are not kept
 abbrev pub unkept : Cached → Bytes → List Opened → List Table → ℕ

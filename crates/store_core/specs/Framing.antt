@@ -5,7 +5,7 @@ use Rattle.block_model.specs.Places.{byte_of_page, pages_of}
 use Rattle.byte_fields.specs.declared.parts.Row.{Row}
 use Rattle.disk_trait.specs.Image.{Image}
 use Rattle.disk_trait.specs.World.{Passes, World}
-use Rattle.key_base.specs.Limits.{slot_bytes}
+use Rattle.key_base.specs.Limits.{log_bytes, slot_bytes}
 use Rattle.manifest.specs.Manifest.{Manifest, place_of}
 
 -- ---- places
@@ -23,6 +23,11 @@ IsInTables (row ∷ rows) place = IsWithin (byte_of_page row.first_page) (page_b
 abbrev pub IsInUse : Manifest → ℕ → ℕ → Type 0
 IsInUse m logged place =
     IsWithin (place_of m.slot) slot_bytes place ⊎ IsWithin (byte_of_page m.version.log_page) logged place ⊎ IsInTables m.version.rows place
+
+-- in use, or elsewhere in the log area in use; but not in a record of so many bytes that is put behind the log, where it fits
+abbrev pub IsBesideRecord : Manifest → ℕ → ℕ → ℕ → Type 0
+IsBesideRecord m logged size place =
+    IsInUse m log_bytes place × (logged + size ≤ log_bytes → IsWithin (byte_of_page m.version.log_page + logged) size place → ⊥)
 
 -- ---- images
 

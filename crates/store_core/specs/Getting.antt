@@ -15,7 +15,7 @@ use Rattle.state_model.specs.Bounds.{get_bound, unless_found}
 use Rattle.state_model.specs.State.{State}
 use Rattle.state_model.specs.View.{memory}
 use Rattle.store_core.specs.Answers.{told_limit}
-use Rattle.store_core.specs.Caching.{Cached, IsFirst, MayKeep, cache_number, past_cache, said_by, unkept}
+use Rattle.store_core.specs.Caching.{Cached, IsFirst, LeavesKept, MayKeep, cache_number, past_cache, said_by, unkept, unkept_named}
 use Rattle.store_core.specs.StoreValue.{StoreValue}
 use Rattle.store_core.specs.Represents.{Represents}
 use Rattle.store_core.specs.declared.getting.BlockRead.{BlockRead}
@@ -89,10 +89,11 @@ MayKeepRead (Some read) buffer old new = MayKeep (read.number, read.block) (take
 abbrev pub unkept_bound : StoreValue → State → Bytes → ℕ
 unkept_bound store s key = unless_found (lookup (memory s) key) (unkept store.blocks key store.tables s.tables)
 
--- A get leaves the store as it is, but for what was read last and the blocks that are kept, and tied to each state that it was
--- tied to.
+-- A get leaves the store as it is, but for what was read last and the blocks that are kept, of which none is lost but to one
+-- more; and tied to each state that it was tied to.
 pub record Asked (spelling : Spelling) (filter_bytes : FilterBytes) (tells : Bool) (before after : StoreValue) (old new : World) : Type 0 where
   pub same : after ≡ record before { buffer = after.buffer; blocks = after.blocks }
+  pub kept : LeavesKept before.blocks after.blocks
   pub tied : (s : State) → IsTrue tells → Represents spelling filter_bytes before s old → Represents spelling filter_bytes after s new
 
 -- a read failed, and only where the count of such failures rose
@@ -178,3 +179,5 @@ pub record GetsKey {T : Type 0} (spelling : Spelling) (filter_bytes : FilterByte
   -- a stopped store reads nothing
   pub no_call : store.stopped ≡ true → ReadMoves 0 before after
   pub moves : ReadMoves (length store.tables) before after
+  -- whatever the device is, it reads only of tables that name a block for the key which is not kept
+  pub named : after.seen.reads ≤ before.seen.reads + unkept_named store.blocks key store.tables

@@ -193,6 +193,7 @@ impl<F: RangeFilter> Store<F> {
         ensures dropped { self.old.stopped ≡ false → self.new.job ≡ None }
         ensures due { IfErr result (IsCompactDue self.old (D.world disk.old) (D.world disk.new)) }
         ensures stays { Stays result (record self.old { job = self.new.job }) self.new }
+        ensures limited { self.old.manifest.version.epoch ≡ last_epoch → ReadMoves 0 (D.world disk.old) (D.world disk.new) }
         ensures nothing { self.old.stopped ≡ false → self.old.memory.entries ≡ [] → self.old.tables ≡ [] → DoesNothing result (record self.old { job = None }) self.new (D.world disk.old) (D.world disk.new) }
         ensures stopped { self.new.stopped ≡ (self.old.stopped || stopped_by result) }
         ensures no_call { self.old.stopped ≡ true → ReadMoves 0 (D.world disk.old) (D.world disk.new) }

@@ -13,7 +13,7 @@ ghost use Rattle.map_model.specs.SortedMap.{Bytes, get};
 ghost use Rattle.state_model.specs.Bounds.{searched};
 ghost use Rattle.state_model.specs.State.{State};
 ghost use Rattle.state_model.specs.View.{first_found, state_map, view};
-ghost use Rattle.store_core.specs.Caching.{AreNumbered, AreSame, BlockAgrees, CacheAgrees, IsFirst, SaysOf, cache_number, past_cache, reads_for, said_by, unkept};
+ghost use Rattle.store_core.specs.Caching.{AreNumbered, AreSame, BlockAgrees, CacheAgrees, IsFirst, LeavesKept, SaysOf, cache_number, past_cache, reads_for, said_by, unkept, unkept_named};
 ghost use Rattle.store_core.specs.Getting.{IsBlockFault, IsBlockIn, IsFaultIn, IsFoundAt, IsLookFault, IsPlaceIn, IsReadIn, IsSpotIn, MayKeepRead, entries_by_table, said_at, said_in};
 ghost use Rattle.store_core.specs.StoreValue.{StoreValue};
 ghost use Rattle.level_merge.specs.TablesAgree.{TablesAgree};
@@ -172,7 +172,7 @@ fn look_in_all<F: RangeFilter, D: Disk>(
         → (D.world disk.new).seen.reads ≤ (D.world disk.old).seen.reads + unkept blocks.old key.now tables.now states }
     ensures only_if_read { (states : List model.Table) → IsTrue D.tells → TablesAgree F.spelling tables.now states (D.world disk.old).seen.held → CacheAgrees blocks.old tables.now states
         → OnErr result (1 ≤ searched key.now states) }
-    ensures moves { ReadMoves (length tables.now) (D.world disk.old) (D.world disk.new) }
+    ensures moves { ReadMoves (unkept_named blocks.old key.now tables.now) (D.world disk.old) (D.world disk.new) }
     ensures cause { IfErr result (IsLookFault (D.world disk.old) (D.world disk.new)) }
 {
     let Some((table, older)) = tables.split_first() else {
@@ -219,6 +219,7 @@ fn look_and_keep<F: RangeFilter, D: Disk>(
     requires room { largest_block ≤ length buffer.old }
     ensures place { IfOk result (λ found. IfSome found (λ spot. IsSpotIn spot buffer.new)) }
     ensures length { length buffer.new ≡ length buffer.old }
+    ensures kept { LeavesKept blocks.old blocks.new }
     ensures numbered { AreNumbered blocks.old (length tables.now) → AreNumbered blocks.new (length tables.now) }
     ensures keeps { (states : List model.Table) → IsTrue D.tells → TablesAgree F.spelling tables.now states (D.world disk.old).seen.held → CacheAgrees blocks.old tables.now states
         → CacheAgrees blocks.new tables.now states }
@@ -232,7 +233,7 @@ fn look_and_keep<F: RangeFilter, D: Disk>(
         → (D.world disk.new).seen.reads ≤ (D.world disk.old).seen.reads + searched key.now states }
     ensures only_if_read { (states : List model.Table) → IsTrue D.tells → TablesAgree F.spelling tables.now states (D.world disk.old).seen.held → CacheAgrees blocks.old tables.now states
         → OnErr result (1 ≤ searched key.now states) }
-    ensures moves { ReadMoves (length tables.now) (D.world disk.old) (D.world disk.new) }
+    ensures moves { ReadMoves (unkept_named blocks.old key.now tables.now) (D.world disk.old) (D.world disk.new) }
     ensures cause { IfErr result (IsLookFault (D.world disk.old) (D.world disk.new)) }
 {
     // no more are read than the state says

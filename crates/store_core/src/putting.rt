@@ -11,7 +11,7 @@ ghost use Rattle.line_model.specs.Requests.{Del, Put};
 ghost use Rattle.state_model.specs.Changes.{logged, written};
 ghost use Rattle.state_model.specs.State.{State};
 ghost use Rattle.store_core.specs.Answers.{AnswersRequest, IsTried, IsWriteFailure, IsWriteRefusal, MovesTo, WroteEntry, stopped_by, told_change};
-ghost use Rattle.store_core.specs.Framing.{IsInUse, LeavesPlaces};
+ghost use Rattle.store_core.specs.Framing.{IsBesideRecord, IsInUse, LeavesPlaces};
 ghost use Rattle.store_core.specs.Refusing.{IsEntryAllowed, IsWriteDue};
 ghost use Rattle.store_core.specs.Represents.{Represents};
 ghost use Rattle.store_core.specs.Staying.{Stays};
@@ -38,6 +38,7 @@ impl<F: RangeFilter> Store<F> {
         ensures due { IfErr result (IsWriteDue (filter_bytes_of F.spelling F.built_cutoff) self.old (put_entry key.now value.now) (D.world disk.old) (D.world disk.new)) }
         ensures allowed { OnOk result (IsEntryAllowed (filter_bytes_of F.spelling F.built_cutoff) self.old (put_entry key.now value.now)) }
         ensures stays { Stays result self.old self.new }
+        ensures own { LeavesPlaces (IsBesideRecord self.old.manifest self.old.log.filled (need (put_entry key.now value.now))) (D.world disk.old) (D.world disk.new) }
         ensures frame { LeavesPlaces (IsInUse self.old.manifest self.old.log.filled) (D.world disk.old) (D.world disk.new) }
         ensures pages { self.new.manifest.version.pages ≡ self.old.manifest.version.pages }
         ensures stopped { self.new.stopped ≡ (self.old.stopped || stopped_by result) }
@@ -60,6 +61,7 @@ impl<F: RangeFilter> Store<F> {
         ensures due { IfErr result (IsWriteDue (filter_bytes_of F.spelling F.built_cutoff) self.old (del_entry key.now) (D.world disk.old) (D.world disk.new)) }
         ensures allowed { OnOk result (IsEntryAllowed (filter_bytes_of F.spelling F.built_cutoff) self.old (del_entry key.now)) }
         ensures stays { Stays result self.old self.new }
+        ensures own { LeavesPlaces (IsBesideRecord self.old.manifest self.old.log.filled (need (del_entry key.now))) (D.world disk.old) (D.world disk.new) }
         ensures frame { LeavesPlaces (IsInUse self.old.manifest self.old.log.filled) (D.world disk.old) (D.world disk.new) }
         ensures pages { self.new.manifest.version.pages ≡ self.old.manifest.version.pages }
         ensures stopped { self.new.stopped ≡ (self.old.stopped || stopped_by result) }
@@ -88,6 +90,7 @@ impl<F: RangeFilter> Store<F> {
         ensures due { IfErr result (IsWriteDue (filter_bytes_of F.spelling F.built_cutoff) self.old (entry_of key.now (value_of value.entry)) (D.world disk.old) (D.world disk.new)) }
         ensures allowed { OnOk result (IsEntryAllowed (filter_bytes_of F.spelling F.built_cutoff) self.old (entry_of key.now (value_of value.entry))) }
         ensures stays { Stays result self.old self.new }
+        ensures own { LeavesPlaces (IsBesideRecord self.old.manifest self.old.log.filled (need (entry_of key.now (value_of value.entry)))) (D.world disk.old) (D.world disk.new) }
         ensures frame { LeavesPlaces (IsInUse self.old.manifest self.old.log.filled) (D.world disk.old) (D.world disk.new) }
         ensures pages { self.new.manifest.version.pages ≡ self.old.manifest.version.pages }
         ensures stopped { self.new.stopped ≡ stopped_by result }

@@ -1,6 +1,7 @@
 use Rattle.std.proofs.Common.{rules, ◌≡◌, ◌≤◌, ◌<◌, ◌+◌, ◌∙◌, ℕ, List, suc, take, length, sym, ap, subst, arith}
 use Rattle.std.specs.Option.{option_or}
 use Rattle.std.specs.Prelude.{IfSome, Option}
+use Rattle.disk_trait.proofs.Calls.{reads_none}
 use Rattle.state_model.specs.Bounds.{searched}
 use Rattle.state_model.specs.View.{first_found}
 use Rattle.store_core.specs.Caching.{BlockAgrees, CacheAgrees, cache_number, past_cache, reads_for, unkept}
@@ -9,7 +10,7 @@ use Rattle.level_merge.specs.TablesAgree.{TablesAgree}
 use Rattle.store_core.specs.declared.getting.BlockRead.{BlockRead}
 use Rattle.store_core.proofs.Caches.{same_then, true_same}
 use Rattle.store_core.proofs.Founds.{said_first}
-use Rattle.store_core.proofs.Lookings.{by_first, found_said, no_entry, nothing_said, older_true, read_first, read_later, read_true, said_next, says_of_number, true_later, unkept_first, unkept_next, unkept_same, unread_both}
+use Rattle.store_core.proofs.Lookings.{by_first, found_said, named_first, named_next, no_entry, nothing_said, older_true, read_first, read_later, read_true, said_next, says_of_number, true_later, unkept_first, unkept_next, unkept_same, unread_both}
 use Rattle.store_core.proofs.ReadBounds.{next_bound, searched_first}
 use Rattle.store_core.proofs.ShownBlocks.{first_fault, older_fault}
 use Rattle.table_file.specs.Search.{block_for}
@@ -225,3 +226,26 @@ pub returns-in_err-later-clause-shown : goal.returns-in_err-later-clause-shown
 returns-in_err-later-clause-shown g t c tells =
     let here = older_fault c.in-Some.table.now c.in-Some.older.now c.args.tables.now c.args.key.now (g.D.Disk.world c.args.disk.now).seen.held (g.D.Disk.world c.look_in.new.disk).seen.held c.in_err-later.field-0.0 c.in-Some.ensures.cases.0 c.look_in.ensures.moves.held (c.in_err-later.ensures.shown tells) in
     search rules
+
+-- ---- what is read, whatever the device is
+
+pub returns-in_default-clause-moves : goal.returns-in_default-clause-moves
+returns-in_default-clause-moves g t c = reads_none _ _
+
+pub returns-in_err-here-clause-moves : goal.returns-in_err-here-clause-moves
+returns-in_err-here-clause-moves g t c =
+    named_first c.args.blocks.now c.args.key.now c.in-Some.table.now c.in-Some.older.now c.args.tables.now c.in-Some.ensures.cases.0 c.number-number.result c.number-number.ensures _ _ c.look_in.ensures.moves
+
+pub returns-then-is_some-clause-moves : goal.returns-then-is_some-clause-moves
+returns-then-is_some-clause-moves g t c =
+    named_first c.args.blocks.now c.args.key.now c.in-Some.table.now c.in-Some.older.now c.args.tables.now c.in-Some.ensures.cases.0 c.number-number.result c.number-number.ensures _ _ c.look_in.ensures.moves
+
+pub returns-in_err-later-clause-moves : goal.returns-in_err-later-clause-moves
+returns-in_err-later-clause-moves g t c =
+    named_next c.args.blocks.now c.args.key.now c.in-Some.table.now c.in-Some.older.now c.args.tables.now c.in-Some.ensures.cases.0 c.number-number.result c.number-number.ensures _ _ c.look_in.ensures.moves
+    c.look_in.new.blocks c.look_in.ensures.same _ c.look_in_all.ensures.moves
+
+pub returns-clause-moves : goal.returns-clause-moves
+returns-clause-moves g t c =
+    named_next c.args.blocks.now c.args.key.now c.in-Some.table.now c.in-Some.older.now c.args.tables.now c.in-Some.ensures.cases.0 c.number-number.result c.number-number.ensures _ _ c.look_in.ensures.moves
+    c.look_in.new.blocks c.look_in.ensures.same _ c.look_in_all.ensures.moves

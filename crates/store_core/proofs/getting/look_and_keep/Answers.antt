@@ -1,7 +1,7 @@
 use Rattle.std.proofs.Common.{◌∙◌, length, arith}
 use Rattle.std.proofs.lemmas.Option.{IfSome_then}
-use Rattle.store_core.proofs.Caches.{numbered_same, true_same}
-use Rattle.store_core.proofs.Lookings.{kept_numbered, kept_true, place_found, said_stays, unkept_within}
+use Rattle.store_core.proofs.Caches.{left_same, numbered_same, true_same}
+use Rattle.store_core.proofs.Lookings.{kept_left, kept_numbered, kept_true, place_found, said_stays, unkept_within}
 use Rattle.store_core.proofs.getting.look_and_keep.Goals as goal
 
 pub keep_read-requires-clause-sound : goal.keep_read-requires-clause-sound
@@ -15,6 +15,12 @@ returns-in_err-looked-clause-numbered g c numbered = numbered_same c.args.blocks
 
 pub returns-in_err-looked-clause-keeps : goal.returns-in_err-looked-clause-keeps
 returns-in_err-looked-clause-keeps g c states tells held are = true_same c.args.blocks.now c.look_in_all.new.blocks c.args.tables.now states c.look_in_all.ensures.same are
+
+pub returns-in_err-looked-clause-kept : goal.returns-in_err-looked-clause-kept
+returns-in_err-looked-clause-kept g c = left_same c.args.blocks.now c.look_in_all.new.blocks c.look_in_all.ensures.same
+
+pub returns-clause-kept : goal.returns-clause-kept
+returns-clause-kept g c = kept_left c.in_ok-looked.looked.read c.look_in_all.new.buffer c.args.blocks.now c.look_in_all.new.blocks c.keep_read.new.blocks c.look_in_all.ensures.same c.keep_read.ensures
 
 pub returns-clause-place : goal.returns-clause-place
 returns-clause-place g c = IfSome_then c.in_ok-looked.looked.found c.in_ok-looked.ensures.found (λ at is. place_found at c.look_in_all.new.buffer c.look_in_all.new.blocks.kept c.args.key.now is)

@@ -1,4 +1,4 @@
-use Rattle.std.proofs.Common.{◌≢◌, ◌⊎◌, ◌∙◌, [], refl, sym, ap, subst}
+use Rattle.std.proofs.Common.{◌≢◌, ◌⊎◌, ◌∙◌, [], refl, sym, ap, subst, arith}
 use Rattle.disk_trait.proofs.Calls.{reads_none}
 use Rattle.table_model.specs.Tables.{filter_bytes_of}
 use Rattle.store_core.specs.Framing.{IsInUse, LeavesPlaces}
@@ -63,6 +63,23 @@ returns-then-self-2-clause-nothing g c runs none no_tables =
 pub returns-clause-nothing : goal.returns-clause-nothing
 returns-clause-nothing g c runs none no_tables =
     absurd (holds_some c.args.self.now c.drop_job.new.self c.drop_job.ensures (c.holds_nothing.ensures.some c.if-holds_nothing.false) none no_tables)
+
+-- ---- at the last epoch
+
+pub returns-then-self-clause-limited : goal.returns-then-self-clause-limited
+returns-then-self-clause-limited g c last = reads_none 0 (g.D.Disk.world c.args.disk.now)
+
+pub returns-then-holds_nothing-clause-limited : goal.returns-then-holds_nothing-clause-limited
+returns-then-holds_nothing-clause-limited g c last = reads_none 0 (g.D.Disk.world c.args.disk.now)
+
+pub returns-then-self-2-clause-limited : goal.returns-then-self-2-clause-limited
+returns-then-self-2-clause-limited g c last = reads_none 0 (g.D.Disk.world c.args.disk.now)
+
+pub returns-clause-limited : goal.returns-clause-limited
+returns-clause-limited g c last =
+    let left = is_below_last c.args.self.now c.drop_job.new.self c.drop_job.ensures (subst IsConsistent c.self.view_is c.self.invariant.0)
+    (λ at. c.if-self-2.false (ap (λ (i : Inside _). i.version.version.epoch) c.self-inside.view_is ∙ (ap (λ (k : StoreValue). k.manifest.version.epoch) c.self-2.view_is ∙ at))) in
+    absurd (omega (arith, left, ap (λ (k : StoreValue). k.manifest.version.epoch) c.drop_job.ensures, last))
 
 -- ---- when a limit refuses it
 

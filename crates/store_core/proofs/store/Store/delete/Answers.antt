@@ -1,12 +1,12 @@
 use Rattle.std.proofs.Common.{refl, subst}
 use Rattle.std.specs.Prelude.{IfErr, Result}
-use Rattle.entry_model.specs.Entries.{del_entry}
+use Rattle.entry_model.specs.Entries.{del_entry, need}
 use Rattle.line_model.specs.Limits.{key_limit}
 use Rattle.line_model.specs.Requests.{Del}
 use Rattle.state_model.specs.Changes.{written}
 use Rattle.table_model.specs.Tables.{filter_bytes_of}
 use Rattle.store_core.specs.Answers.{AnswersRequest, told_change}
-use Rattle.store_core.specs.Framing.{IsInUse}
+use Rattle.store_core.specs.Framing.{IsBesideRecord, IsInUse}
 use Rattle.store_core.specs.Refusing.{IsWriteDue}
 use Rattle.store_core.proofs.Framing.{leaves_none}
 use Rattle.store_core.specs.StoreValue.{IsConsistent}
@@ -66,3 +66,12 @@ returns-in_err-check_key-clause-frame g c = leaves_none (IsInUse c.args.self.now
 
 pub returns-clause-frame : goal.returns-clause-frame
 returns-clause-frame g c = c.write.ensures.frame
+
+pub returns-then-self-clause-own : goal.returns-then-self-clause-own
+returns-then-self-clause-own g c = leaves_none (IsBesideRecord c.args.self.now.manifest c.args.self.now.log.filled (need (del_entry c.args.key.now))) (g.D.Disk.world c.args.disk.now)
+
+pub returns-in_err-check_key-clause-own : goal.returns-in_err-check_key-clause-own
+returns-in_err-check_key-clause-own g c = leaves_none (IsBesideRecord c.args.self.now.manifest c.args.self.now.log.filled (need (del_entry c.args.key.now))) (g.D.Disk.world c.args.disk.now)
+
+pub returns-clause-own : goal.returns-clause-own
+returns-clause-own g c = c.write.ensures.own

@@ -19,6 +19,7 @@ returns-in_err-place g c = (
       unkept = c.look_for.ensures.gets.unkept;
       no_call = c.look_for.ensures.gets.no_call;
       moves = c.look_for.ensures.gets.moves;
+      named = c.look_for.ensures.gets.named;
     };
     limited = c.look_for.ensures.limited;
     in_memory = c.look_for.ensures.in_memory;
@@ -40,6 +41,7 @@ returns g c = (
       unkept = c.look_for.ensures.gets.unkept;
       no_call = c.look_for.ensures.gets.no_call;
       moves = c.look_for.ensures.gets.moves;
+      named = c.look_for.ensures.gets.named;
     };
     limited = c.look_for.ensures.limited;
     in_memory = c.look_for.ensures.in_memory;

@@ -1,11 +1,19 @@
 use Rattle.std.proofs.Common.{rules, List, length, refl, sym, ◌∙◌, ap, subst}
-use Rattle.store_core.specs.Caching.{AreNumbered, CacheAgrees}
+use Rattle.store_core.specs.Caching.{AreNumbered, CacheAgrees, Cached, LeavesKept}
 use Rattle.store_core.specs.StoreValue.{StoreValue}
 use Rattle.store_core.specs.Represents.{Represents}
 use Rattle.table_file.specs.Opened.{Opened}
 use Rattle.table_model.specs.Tables.{filter_bytes_of}
-use Rattle.store_core.proofs.Asked.{found_view, gets_found, gets_refused, held_of, no_memory, tied_asked, true_of, unsaid, whole_asked, written_whole}
+use Rattle.store_core.proofs.Asked.{asked_still, found_view, gets_found, gets_refused, held_of, no_memory, tied_asked, true_of, unsaid, whole_asked, written_whole}
 use Rattle.store_core.proofs.store.Store.look_for.Goals as goal
+
+pub invariant_of-self : goal.invariant_of-self
+invariant_of-self g c =
+    let tables = c.as_slice-tables.ensures in
+    let before = subst (λ (ts : List Opened). AreNumbered c.self.inside.blocks (length ts)) (sym tables) c.self.invariant.0.numbered in (
+      whole_asked _ _ _ (subst (λ (ts : List Opened). AreNumbered c.look_and_keep.new.blocks (length ts)) tables (c.look_and_keep.ensures.numbered before)) c.self.invariant.0,
+      search rules,
+    )
 
 pub invariant_of-self-2 : goal.invariant_of-self-2
 invariant_of-self-2 g c =
@@ -14,6 +22,15 @@ invariant_of-self-2 g c =
       whole_asked _ _ _ (subst (λ (ts : List Opened). AreNumbered c.look_and_keep.new.blocks (length ts)) tables (c.look_and_keep.ensures.numbered before)) c.self.invariant.0,
       search rules,
     )
+
+pub returns-then-self-clause-asked : goal.returns-then-self-clause-asked
+returns-then-self-clause-asked g c = asked_still g.F.RangeFilter.spelling (filter_bytes_of g.F.RangeFilter.spelling g.F.RangeFilter.built_cutoff) g.D.Disk.tells c.args.self.now (g.D.Disk.world c.args.disk.now)
+
+pub returns-in_err-check_key-clause-asked : goal.returns-in_err-check_key-clause-asked
+returns-in_err-check_key-clause-asked g c = asked_still g.F.RangeFilter.spelling (filter_bytes_of g.F.RangeFilter.spelling g.F.RangeFilter.built_cutoff) g.D.Disk.tells c.args.self.now (g.D.Disk.world c.args.disk.now)
+
+pub returns-then-is_some-clause-asked : goal.returns-then-is_some-clause-asked
+returns-then-is_some-clause-asked g c = asked_still g.F.RangeFilter.spelling (filter_bytes_of g.F.RangeFilter.spelling g.F.RangeFilter.built_cutoff) g.D.Disk.tells c.args.self.now (g.D.Disk.world c.args.disk.now)
 
 pub returns-in_err-found-clause-asked : goal.returns-in_err-found-clause-asked
 returns-in_err-found-clause-asked g c =
@@ -28,6 +45,7 @@ returns-in_err-found-clause-asked g c =
     let current = g.met.D.Disk.current c.args.disk.now in
     record {
       same = search rules;
+      kept = subst (λ (b : Cached). LeavesKept b c.look_and_keep.new.blocks) blocks c.look_and_keep.ensures.kept;
       tied = λ s tells tied.
           let ours = subst (λ (k : StoreValue). Represents spelling bytes k s w) (sym c.self.view_is) tied in
           let held = held_of spelling bytes g.D.Disk.tells c.args.self.now key opened c.self.inside.blocks w later tables blocks current s tells tied in
@@ -65,6 +83,7 @@ returns-clause-asked g c =
     let current = g.met.D.Disk.current c.args.disk.now in
     record {
       same = search rules;
+      kept = subst (λ (b : Cached). LeavesKept b c.look_and_keep.new.blocks) blocks c.look_and_keep.ensures.kept;
       tied = λ s tells tied.
           let ours = subst (λ (k : StoreValue). Represents spelling bytes k s w) (sym c.self.view_is) tied in
           let held = held_of spelling bytes g.D.Disk.tells c.args.self.now key opened c.self.inside.blocks w later tables blocks current s tells tied in

@@ -5,12 +5,13 @@ use Rattle.disk_trait.specs.World.{WriteMoves}
 use Rattle.std.proofs.lemmas.Bool.{cases_lt}
 use Rattle.entry_model.specs.Entries.{Entry, entry_of, need}
 use Rattle.gate_log.specs.Values.{value_of}
+use Rattle.log_model.specs.Area.{start_of}
 use Rattle.state_model.specs.Changes.{written}
 use Rattle.table_model.specs.Tables.{filter_bytes_of}
 use Rattle.store_core.specs.Answers.{WroteEntry}
-use Rattle.store_core.specs.Framing.{IsInUse, LeavesPlaces}
+use Rattle.store_core.specs.Framing.{IsBesideRecord, IsInUse, LeavesPlaces}
 use Rattle.store_core.specs.Refusing.{IsWriteDue}
-use Rattle.store_core.proofs.RecordsLeft.{flush_left, flush_then_record_left, record_left, small_need}
+use Rattle.store_core.proofs.RecordsLeft.{flush_left, flush_own_left, flush_then_own_left, flush_then_record_left, own_left, record_left, small_need}
 use Rattle.store_core.proofs.Framing.{leaves_none}
 use Rattle.store_core.specs.StoreValue.{StoreValue}
 use Rattle.store_core.specs.Represents.{Represents}
@@ -189,3 +190,38 @@ returns-clause-frame g c =
     (flush_then_record_left _ c.self.invariant.0 c.reserve_for.new.self c.reserve_for.ensures.kept c.flush_memory.new.self.log.area c.flush_memory.new.self.log.filled (need e) wide
     (subst (λ (x : Entry). need x ≤ 262144) (sym c.in_ok-entry.ensures.prepared) (small_need (entry_of c.args.key.now (value_of c.args.value)) c.requires.sound))
     c.in_ok-flush_memory.ensures.begun c.in_ok-flush_memory.ensures.other a b d c.flush_memory.ensures.frame c.append-2.ensures.own)
+
+-- ---- and all but its own record
+
+pub returns-in_err-entry-clause-own : goal.returns-in_err-entry-clause-own
+returns-in_err-entry-clause-own g c =
+    leaves_none (IsBesideRecord c.args.self.now.manifest c.args.self.now.log.filled (need (entry_of c.args.key.now (value_of c.args.value)))) (g.D.Disk.world c.args.disk.now)
+
+pub returns-then-fits-clause-own : goal.returns-then-fits-clause-own
+returns-then-fits-clause-own g c =
+    let x = entry_of c.args.key.now (value_of c.args.value) in
+    let within = subst (λ (n : ℕ). c.self.inside.log.filled + n ≤ 262144) c.record_need.ensures (c.fits.ensures.0 c.if-fits.true) in
+    let a = g.D.Disk.world c.args.disk.now in
+    let b = g.D.Disk.world c.append.new.disk in
+    let written = subst (λ (y : Entry). WriteMoves (start_of c.self.inside.log.area + c.self.inside.log.filled) (need y) a b) c.in_ok-entry.ensures.prepared c.append.ensures.own in
+    subst (λ (k : StoreValue). LeavesPlaces (IsBesideRecord k.manifest k.log.filled (need x)) a b) c.self.view_is (own_left _ c.self.invariant.0 (need x) within a b written)
+
+pub returns-in_err-flush_memory-clause-own : goal.returns-in_err-flush_memory-clause-own
+returns-in_err-flush_memory-clause-own g c =
+    let x = entry_of c.args.key.now (value_of c.args.value) in
+    let a = g.D.Disk.world c.args.disk.now in
+    let b = g.D.Disk.world c.flush_memory.new.disk in
+    subst (λ (k : StoreValue). LeavesPlaces (IsBesideRecord k.manifest k.log.filled (need x)) a b) c.self.view_is (flush_own_left _ c.self.invariant.0 (need x) a b c.flush_memory.ensures.frame)
+
+pub returns-clause-own : goal.returns-clause-own
+returns-clause-own g c =
+    let x = entry_of c.args.key.now (value_of c.args.value) in
+    let a = g.D.Disk.world c.args.disk.now in
+    let b = g.D.Disk.world c.flush_memory.new.disk in
+    let d = g.D.Disk.world c.append-2.new.disk in
+    let wide = subst (λ (n : ℕ). 262144 < c.self.inside.log.filled + n) c.record_need.ensures
+    (not_within (c.self.inside.log.filled + c.record_need.result) c.fits.result c.fits.ensures.1 c.if-fits.false) in
+    let written = subst (λ (y : Entry). WriteMoves (start_of c.flush_memory.new.self.log.area + c.flush_memory.new.self.log.filled) (need y) b d) c.in_ok-entry.ensures.prepared c.append-2.ensures.own in
+    subst (λ (k : StoreValue). LeavesPlaces (IsBesideRecord k.manifest k.log.filled (need x)) a d) c.self.view_is
+    (flush_then_own_left _ c.self.invariant.0 c.reserve_for.new.self c.reserve_for.ensures.kept c.flush_memory.new.self.log.area c.flush_memory.new.self.log.filled (need x) wide (small_need x c.requires.sound)
+    c.in_ok-flush_memory.ensures.begun c.in_ok-flush_memory.ensures.other a b d c.flush_memory.ensures.frame written)
