@@ -62,6 +62,7 @@ pub mod Tellings
 pub mod TendAnswers
 pub mod TendNext
 pub mod TendRefusals
+pub mod TendRooms
 pub mod TendRuns
 pub mod TendSlices
 pub mod Ties

@@ -10,10 +10,12 @@ use Rattle.key_base.specs.Limits.{last_epoch}
 use Rattle.level_merge.specs.Follows.{IsJobRefusal, IsSliced}
 use Rattle.level_merge.specs.JobValue.{AreAllWritten, JobValue, begun, work_left}
 use Rattle.level_merge.specs.Plans.{Agree, IsPlanOf, MayStart, PlanByNumbers}
+use Rattle.level_merge.specs.SliceSteps.{HasNoRoom}
 use Rattle.level_merge.specs.declared.fault.JobFault.{JobFault}
 use Rattle.level_merge.specs.declared.fault.JobFault.TheVariants as job
 use Rattle.level_merge.specs.declared.fault.Sliced.{Sliced}
 use Rattle.line_model.specs.Replies as reply
+use Rattle.manifest_model.specs.Version.{Version}
 use Rattle.merge_rows.specs.Steps.{numbers}
 use Rattle.state_model.specs.Merges.{choose}
 use Rattle.state_model.specs.State.{Job, State, without_job}
@@ -22,6 +24,7 @@ use Rattle.state_model.specs.Tends.{Progresses, Runs, Tend, with_job}
 use Rattle.state_model.specs.View.{state_map}
 use Rattle.store_core.specs.Answers.{HasCause, stops, told, told_limit}
 use Rattle.store_core.specs.Replacing.{tables_behind}
+use Rattle.store_core.specs.Running.{extents_with}
 use Rattle.store_core.specs.Staying.{IsAsItWas}
 use Rattle.store_core.specs.StoreValue.{StoreValue, rows_of}
 use Rattle.store_core.specs.Opening.{FaultRose}
@@ -118,6 +121,20 @@ abbrev pub IsWork : StoreValue → StoreValue → Tended → Type 0
 IsWork before after tended.Worked = (m : JobValue) × IsMergeAtHand before m × HasWorked before m after
 IsWork before after tended.Idle = Unit {0}
 IsWork before after (tended.Full need gap) = Unit {0}
+
+-- Where an output of a merge has no room under a version: the need is that of an output of it with an entry or more, and the gap
+-- the largest beside the version's rows and its outputs so far.
+abbrev pub IsWithoutRoomOf : FilterBytes → Version → JobValue → Tended → Type 0
+IsWithoutRoomOf filter_bytes v m tended.Worked = Unit {0}
+IsWithoutRoomOf filter_bytes v m tended.Idle = Unit {0}
+IsWithoutRoomOf filter_bytes v m (tended.Full need gap) = HasNoRoom filter_bytes m.settings v.pages (extents_with v m.outputs) (job.Full need gap)
+
+-- so of the merge that runs, or of the one that begins
+abbrev pub IsWithoutRoom : FilterBytes → StoreValue → Tended → Type 0
+IsWithoutRoom filter_bytes before tended.Worked = Unit {0}
+IsWithoutRoom filter_bytes before tended.Idle = Unit {0}
+IsWithoutRoom filter_bytes before (tended.Full need gap) =
+    (m : JobValue) × IsMergeAtHand before m × IsWithoutRoomOf filter_bytes before.manifest.version m (tended.Full need gap)
 
 -- reads, and writes on so many bytes of the device
 abbrev pub SomeMoves : ℕ → World → World → Type 0

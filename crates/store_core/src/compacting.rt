@@ -197,6 +197,7 @@ impl<F: RangeFilter> Store<F> {
         ensures stopped { self.new.stopped ≡ (self.old.stopped || stopped_by result) }
         ensures no_call { self.old.stopped ≡ true → ReadMoves 0 (D.world disk.old) (D.world disk.new) }
         ensures frame { LeavesPlaces (IsInUse self.old.manifest log_bytes) (D.world disk.old) (D.world disk.new) }
+        ensures pages { self.new.manifest.version.pages ≡ self.old.manifest.version.pages }
         ensures moves { SomeMoves (page_bytes * self.old.manifest.version.pages) (D.world disk.old) (D.world disk.new) }
     {
         if self.stopped {
@@ -241,6 +242,7 @@ impl<F: RangeFilter> Store<F> {
         ensures stays { Stays result self.old self.new }
         ensures stopped { self.new.stopped ≡ stopped_by result }
         ensures frame { LeavesPlaces (IsInUse self.old.manifest log_bytes) (D.world disk.old) (D.world disk.new) }
+        ensures pages { self.new.manifest.version.pages ≡ self.old.manifest.version.pages }
         ensures moves { SomeMoves (page_bytes * self.old.manifest.version.pages) (D.world disk.old) (D.world disk.new) }
     {
         let alloc = *self.buffer.allocator();

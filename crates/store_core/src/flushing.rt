@@ -234,6 +234,7 @@ impl<F: RangeFilter> Store<F> {
         ensures allowed { OnOk result (IsFlushAllowed (filter_bytes_of F.spelling F.built_cutoff) self.old) }
         ensures stays { Stays result self.old self.new }
         ensures frame { LeavesPlaces (IsInUse self.old.manifest log_bytes) (D.world disk.old) (D.world disk.new) }
+        ensures pages { self.new.manifest.version.pages ≡ self.old.manifest.version.pages }
         ensures nothing { self.old.stopped ≡ false → self.old.memory.entries ≡ [] → DoesNothing result self.old self.new (D.world disk.old) (D.world disk.new) }
         ensures stopped { self.new.stopped ≡ (self.old.stopped || stopped_by result) }
         ensures no_call { self.old.stopped ≡ true → ReadMoves 0 (D.world disk.old) (D.world disk.new) }

@@ -39,6 +39,7 @@ impl<F: RangeFilter> Store<F> {
         ensures allowed { OnOk result (IsEntryAllowed (filter_bytes_of F.spelling F.built_cutoff) self.old (put_entry key.now value.now)) }
         ensures stays { Stays result self.old self.new }
         ensures frame { LeavesPlaces (IsInUse self.old.manifest self.old.log.filled) (D.world disk.old) (D.world disk.new) }
+        ensures pages { self.new.manifest.version.pages ≡ self.old.manifest.version.pages }
         ensures stopped { self.new.stopped ≡ (self.old.stopped || stopped_by result) }
         ensures no_call { self.old.stopped ≡ true → ReadMoves 0 (D.world disk.old) (D.world disk.new) }
         ensures moves { WriteMoves 0 (page_bytes * self.old.manifest.version.pages) (D.world disk.old) (D.world disk.new) }
@@ -60,6 +61,7 @@ impl<F: RangeFilter> Store<F> {
         ensures allowed { OnOk result (IsEntryAllowed (filter_bytes_of F.spelling F.built_cutoff) self.old (del_entry key.now)) }
         ensures stays { Stays result self.old self.new }
         ensures frame { LeavesPlaces (IsInUse self.old.manifest self.old.log.filled) (D.world disk.old) (D.world disk.new) }
+        ensures pages { self.new.manifest.version.pages ≡ self.old.manifest.version.pages }
         ensures stopped { self.new.stopped ≡ (self.old.stopped || stopped_by result) }
         ensures no_call { self.old.stopped ≡ true → ReadMoves 0 (D.world disk.old) (D.world disk.new) }
         ensures moves { WriteMoves 0 (page_bytes * self.old.manifest.version.pages) (D.world disk.old) (D.world disk.new) }
@@ -87,6 +89,7 @@ impl<F: RangeFilter> Store<F> {
         ensures allowed { OnOk result (IsEntryAllowed (filter_bytes_of F.spelling F.built_cutoff) self.old (entry_of key.now (value_of value.entry))) }
         ensures stays { Stays result self.old self.new }
         ensures frame { LeavesPlaces (IsInUse self.old.manifest self.old.log.filled) (D.world disk.old) (D.world disk.new) }
+        ensures pages { self.new.manifest.version.pages ≡ self.old.manifest.version.pages }
         ensures stopped { self.new.stopped ≡ stopped_by result }
         ensures moves { WriteMoves 0 (page_bytes * self.old.manifest.version.pages) (D.world disk.old) (D.world disk.new) }
     {
@@ -109,6 +112,7 @@ impl<F: RangeFilter> Store<F> {
         ensures stopped { self.new.stopped ≡ stopped_by result }
         ensures failure { IfErr result (IsWriteFailure (D.world disk.old) (D.world disk.new)) }
         ensures own { WriteMoves (start_of self.old.log.area + self.old.log.filled) (need entry) (D.world disk.old) (D.world disk.new) }
+        ensures pages { self.new.manifest.version.pages ≡ self.old.manifest.version.pages }
         ensures moves { WriteMoves 0 (page_bytes * self.old.manifest.version.pages) (D.world disk.old) (D.world disk.new) }
     {
         // the law of merges: what is written elsewhere leaves the one that runs as it is

@@ -6,7 +6,7 @@ ghost use Rattle.disk_trait.specs.World.{ReadMoves};
 ghost use Rattle.image_model.specs.Stands.{settings_of};
 ghost use Rattle.key_base.specs.Limits.{log_bytes, max_tables};
 ghost use Rattle.level_merge.specs.JobValue.{work_left};
-ghost use Rattle.level_merge.specs.SliceSteps.{FailsBeforeWrite, IsSliceFault};
+ghost use Rattle.level_merge.specs.SliceSteps.{FailsBeforeWrite, HasNoRoom, IsSliceFault};
 ghost use Rattle.manifest_model.specs.Laws.{IsVersion};
 ghost use Rattle.merge_rows.specs.Steps.{numbers};
 ghost use Rattle.state_model.specs.State as model;
@@ -14,9 +14,9 @@ ghost use Rattle.state_model.specs.Tends.{Runs, with_job};
 ghost use Rattle.store_core.specs.Answers.{stopped_by};
 ghost use Rattle.store_core.specs.StoreValue.{IsConsistent};
 ghost use Rattle.store_core.specs.Framing.{IsInUse, LeavesPlaces};
-ghost use Rattle.store_core.specs.Running.{HasMoreToMake, IsRun, MayRunIn};
+ghost use Rattle.store_core.specs.Running.{HasMoreToMake, IsRun, MayRunIn, extents_with};
 ghost use Rattle.store_core.specs.Scans.{IsScanShown};
-ghost use Rattle.store_core.specs.Tending.{IsBegunAmong, IsNext, IsMergeTakenOut, IsSameMerge, IsTended, IsTendRefusal, IsWork, IsWorkOf, NoneIsChosen, SliceStays, SlicesJob, SomeMoves, Tends, answer_to, told_slice};
+ghost use Rattle.store_core.specs.Tending.{IsBegunAmong, IsNext, IsMergeTakenOut, IsSameMerge, IsTended, IsTendRefusal, IsWithoutRoom, IsWithoutRoomOf, IsWork, IsWorkOf, NoneIsChosen, SliceStays, SlicesJob, SomeMoves, Tends, answer_to, told_slice};
 ghost use Rattle.store_core.specs.Represents.{Represents, RepresentsOn};
 ghost use Rattle.table_model.specs.Tables.{filter_bytes_of};
 
@@ -76,8 +76,10 @@ impl<F: RangeFilter> Store<F> {
         ensures shown { IsTrue D.tells → IfErr result (IsScanShown self.new.tables (D.world disk.new).seen.held) }
         ensures dropped { self.old.stopped ≡ false → OnErr result (self.new.job ≡ None) }
         ensures worked { IfOk result (IsWork self.old self.new) }
+        ensures no_room { IfOk result (IsWithoutRoom (filter_bytes_of F.spelling F.built_cutoff) self.old) }
         ensures stays { SliceStays result (record self.old { job = self.new.job }) self.new }
         ensures frame { LeavesPlaces (IsInUse self.old.manifest log_bytes) (D.world disk.old) (D.world disk.new) }
+        ensures pages { self.new.manifest.version.pages ≡ self.old.manifest.version.pages }
         ensures stopped { self.new.stopped ≡ (self.old.stopped || stopped_by result) }
         ensures no_call { self.old.stopped ≡ true → ReadMoves 0 (D.world disk.old) (D.world disk.new) }
         ensures moves { SomeMoves (page_bytes * self.old.manifest.version.pages) (D.world disk.old) (D.world disk.new) }
@@ -141,8 +143,10 @@ impl<F: RangeFilter> Store<F> {
         ensures shown { IsTrue D.tells → IfErr result (IsScanShown self.new.tables (D.world disk.new).seen.held) }
         ensures dropped { OnErr result (self.new.job ≡ None) }
         ensures worked { IfOk result (IsWorkOf self.old job.entry self.new) }
+        ensures no_room { IfOk result (IsWithoutRoomOf (filter_bytes_of F.spelling F.built_cutoff) self.old.manifest.version job.entry) }
         ensures stays { SliceStays result (record self.old { job = self.new.job }) self.new }
         ensures frame { LeavesPlaces (IsInUse self.old.manifest log_bytes) (D.world disk.old) (D.world disk.new) }
+        ensures pages { self.new.manifest.version.pages ≡ self.old.manifest.version.pages }
         ensures stopped { self.new.stopped ≡ stopped_by result }
         ensures moves { SomeMoves (page_bytes * self.old.manifest.version.pages) (D.world disk.old) (D.world disk.new) }
     {
@@ -179,6 +183,7 @@ impl<F: RangeFilter> Store<F> {
             → (D.world disk.new).seen.reads ≤ (D.world disk.old).seen.reads + blocks }
         ensures fault { IfErr result (IsSliceFault D.tells self.now.tables (numbers job.old.merge.walks) (D.world disk.old) (D.world disk.new)) }
         ensures unwritten { IfErr result (FailsBeforeWrite (D.world disk.old) (D.world disk.new)) }
+        ensures no_room { IfErr result (HasNoRoom (filter_bytes_of F.spelling F.built_cutoff) job.old.settings self.now.manifest.version.pages (extents_with self.now.manifest.version job.old.outputs)) }
         ensures frame { LeavesPlaces (IsInUse self.now.manifest log_bytes) (D.world disk.old) (D.world disk.new) }
         ensures ends { IfOk result (λ sliced. sliced ≡ Sliced.Working → work_left self.now.tables job.new < work_left self.now.tables job.old) }
         ensures same { IsSameMerge job.old job.new }

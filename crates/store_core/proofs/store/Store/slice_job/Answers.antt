@@ -14,6 +14,7 @@ use Rattle.store_core.specs.Running.{extents_with}
 use Rattle.store_core.specs.Framing.{IsInUse}
 use Rattle.store_core.proofs.Framing.{leaves_none}
 use Rattle.store_core.proofs.SlicesLeft.{slice_left}
+use Rattle.store_core.proofs.TendRooms.{room_beside}
 use Rattle.store_core.proofs.TendRuns.{slice_moved, slices_more, slices_run}
 use Rattle.store_core.proofs.TendSlices.{now_follows, slices_job, wants_memory}
 use Rattle.store_core.proofs.store.Store.slice_job.Goals as goal
@@ -110,3 +111,15 @@ returns-clause-frame g c =
     (subst (λ (rows : List Row). IsPermutation (extents_with c.self.inside.version.version rows) free.extents) c.outputs.ensures c.in_ok-extents.ensures.extents) in
     slice_left g.F.RangeFilter.spelling g.F.RangeFilter.built_cutoff c.args.self.now.manifest whole.version whole.slot old c.slice.new.self free c.slice.new.extents extents
     (g.D.Disk.world c.args.disk.now) (g.D.Disk.world c.slice.new.disk) c.slice.ensures.slices.moves
+
+-- ---- where an output has no room
+
+pub returns-clause-no_room : goal.returns-clause-no_room
+returns-clause-no_room g c =
+    let old = c.args.job.now in
+    let free = c.in_ok-extents.extents in
+    let v = c.args.self.now.manifest.version in
+    let pages = c.in_ok-extents.ensures.pages ∙ ap (λ (k : StoreValue). k.manifest.version.pages) c.self.view_is in
+    let extents = subst (λ (k : StoreValue). IsPermutation (extents_with k.manifest.version old.outputs) free.extents) c.self.view_is
+    (subst (λ (rows : List Row). IsPermutation (extents_with c.self.inside.version.version rows) free.extents) c.outputs.ensures c.in_ok-extents.ensures.extents) in
+    room_beside (filter_bytes_of g.F.RangeFilter.spelling g.F.RangeFilter.built_cutoff) old.settings v old.outputs free.pages free.extents pages extents c.slice.result c.slice.ensures.slices.no_room

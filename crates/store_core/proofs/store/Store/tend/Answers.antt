@@ -14,6 +14,7 @@ use Rattle.store_core.proofs.Framing.{leaves_none}
 use Rattle.store_core.proofs.SliceWork.{of_taken}
 use Rattle.store_core.proofs.Stays.{slice_left, without_merge}
 use Rattle.store_core.proofs.TendAnswers.{idles, none_begun, taken_up}
+use Rattle.store_core.proofs.TendRooms.{room_of_taken}
 use Rattle.store_core.proofs.store.Store.tend.Goals as goal
 
 pub returns-in_err-job-clause-answered : goal.returns-in_err-job-clause-answered
@@ -79,6 +80,11 @@ returns-in-Some-clause-stays g c =
 pub returns-in-Some-clause-worked : goal.returns-in-Some-clause-worked
 returns-in-Some-clause-worked g c =
     of_taken c.args.self.now c.take_job.new.self c.work.new.self c.in-Some.job c.work.result c.take_job.ensures.rest (subst (IsMergeTakenOut c.args.self.now) c.in-Some.is c.in_ok-job.ensures.taken_up) c.work.ensures.worked
+
+pub returns-in-Some-clause-no_room : goal.returns-in-Some-clause-no_room
+returns-in-Some-clause-no_room g c =
+    room_of_taken (filter_bytes_of g.F.RangeFilter.spelling g.F.RangeFilter.built_cutoff) c.args.self.now c.take_job.new.self c.in-Some.job c.work.result c.take_job.ensures.rest
+    (subst (IsMergeTakenOut c.args.self.now) c.in-Some.is c.in_ok-job.ensures.taken_up) c.work.ensures.no_room
 
 -- ---- what is left as it was
 

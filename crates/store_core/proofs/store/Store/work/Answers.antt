@@ -9,7 +9,7 @@ use Rattle.table_model.specs.Tables.{filter_bytes_of}
 use Rattle.store_core.specs.Answers.{stopped_by}
 use Rattle.store_core.specs.StoreValue.{StoreValue}
 use Rattle.store_core.specs.Scans.{IsScanShown}
-use Rattle.store_core.specs.Tending.{IsWorkOf, SlicesJob, Tends, told_slice}
+use Rattle.store_core.specs.Tending.{IsWithoutRoomOf, IsWorkOf, SlicesJob, Tends, told_slice}
 use Rattle.store_core.specs.declared.error.StoreError.{StoreError}
 use Rattle.store_core.specs.declared.tending.Tended.{Tended}
 use Rattle.store_core.specs.declared.tending.Tended.TheVariants as tended
@@ -21,6 +21,7 @@ use Rattle.store_core.proofs.SliceWork.{no_work}
 use Rattle.store_core.proofs.Stays.{install_stays, refused_slice}
 use Rattle.store_core.proofs.TendAnswers.{installs_it, not_installed, slice_refused, tied_none, works_on}
 use Rattle.store_core.proofs.TendRefusals.{both_moved, slice_shown}
+use Rattle.store_core.proofs.TendRooms.{room_answered}
 use Rattle.store_core.proofs.store.Store.work.Goals as goal
 
 -- ---- something is left
@@ -143,6 +144,19 @@ returns-in_err-install_merge-in-Ok-Ready-clause-worked g c =
 pub returns-in-Err-clause-worked : goal.returns-in-Err-clause-worked
 returns-in-Err-clause-worked g c =
     subst (λ (r : Result Tended StoreError). IfOk r (IsWorkOf c.args.self.now c.args.job c.refuse.new.self)) (sym c.refuse.ensures.answer) (no_work c.args.self.now c.refuse.new.self c.args.job c.in-Err.why)
+
+-- ---- where an output has no room
+
+pub returns-in_err-install_merge-in-Ok-Ready-clause-no_room : goal.returns-in_err-install_merge-in-Ok-Ready-clause-no_room
+returns-in_err-install_merge-in-Ok-Ready-clause-no_room g c =
+    subst (λ (r : Result Tended StoreError). IfOk r (IsWithoutRoomOf (filter_bytes_of g.F.RangeFilter.spelling g.F.RangeFilter.built_cutoff) c.args.self.now.manifest.version c.args.job))
+    (passed_on c.from_residual.result c.in_err-install_merge-in-Ok-Ready.field-0.0 c.from_residual.ensures.1) tt
+
+pub returns-in-Err-clause-no_room : goal.returns-in-Err-clause-no_room
+returns-in-Err-clause-no_room g c =
+    let bytes = filter_bytes_of g.F.RangeFilter.spelling g.F.RangeFilter.built_cutoff in
+    let v = c.args.self.now.manifest.version in
+    subst (λ (r : Result Tended StoreError). IfOk r (IsWithoutRoomOf bytes v c.args.job)) (sym c.refuse.ensures.answer) (room_answered bytes v c.args.job c.in-Err.why c.in-Err.ensures.no_room)
 
 -- ---- what is left as it was
 
