@@ -35,7 +35,7 @@ use Rattle.surf_run.specs.Saying.{Says, SaysBehind, end_by}
 use Rattle.surf_run.specs.declared.line_end.LineEnd.{LineEnd}
 use Rattle.surf_run.specs.declared.line_end.LineEnd.TheVariants.{End, Next, Quit}
 use Rattle.surf_run.proofs.EndCauses.{line_read, line_say, lines_on, no_fall_none, rose_since, rose_then}
-use Rattle.surf_run.proofs.Footprint.{within_none}
+use Rattle.surf_run.proofs.Footprint.{pages_none, pages_say, pages_still, within_none}
 use Rattle.surf_run.proofs.Moments.{ends_device, ends_next, ends_quit, line_answer, map_of_state, stands_still, tied_stands, tied_still}
 use Rattle.table_file.specs.Opened.{Opened}
 use Rattle.table_model.specs.Tables.{FilterBytes}
@@ -184,8 +184,8 @@ runs_any Quit stopped is = is
 runs_any (End status) stopped is = tt
 
 -- a get stops no store
-module _ (kind : Kind) (tells tells_output : Bool) (request : Request) (before after : StoreValue) (same : after.stopped ≡ before.stopped) (runs : before.stopped ≡ false) (result : LineEnd)
-    (a mid b : World) (moves : ReadMoves (length before.tables) a mid) (say : SayMoves mid b) where
+module _ (kind : Kind) (tells tells_output : Bool) (request : Request) (before after : StoreValue) (same : after.stopped ≡ before.stopped) (kept : after.manifest.version.pages ≡ before.manifest.version.pages)
+    (runs : before.stopped ≡ false) (result : LineEnd) (a mid b : World) (moves : ReadMoves (length before.tables) a mid) (say : SayMoves mid b) where
   pub read_answers : ((s : State) → IsTrue tells → IsTrue tells_output → Represents kind.spelling kind.filter_bytes before s a → EndsLine kind result s request after a b)
       → EndCause (LineShows (IsTrue tells × IsTrue tells_output) before.tables request) result a b → AnswersLine kind tells tells_output request result before after a b
   read_answers answered cause = record {
@@ -193,6 +193,7 @@ module _ (kind : Kind) (tells tells_output : Bool) (request : Request) (before a
     running = runs_any result after.stopped (same ∙ runs);
     cause = cause;
     moves = lines_on a mid b (line_read (length before.tables) a mid moves) (line_say mid b say);
+    within = pages_say before after a mid b (pages_still before after a mid kept moves.held moves.time) say;
   }
 
 -- ---- a line that calls no device
@@ -209,6 +210,7 @@ module _ (kind : Kind) (tells tells_output : Bool) (request : Request) (store : 
     running = runs_any result store.stopped runs;
     cause = said_cause result Next a a b ends (LineShows (IsTrue tells × IsTrue tells_output) store.tables request) tt (no_fall_none a);
     moves = line_say a b say;
+    within = pages_say store store a a b (pages_none store a) say;
   }
 
 -- why it is refused: for the limit that it breaks

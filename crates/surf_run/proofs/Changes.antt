@@ -28,7 +28,7 @@ use Rattle.surf_run.specs.Saying.{Says, end_by}
 use Rattle.surf_run.specs.declared.line_end.LineEnd.{LineEnd}
 use Rattle.surf_run.specs.declared.line_end.LineEnd.TheVariants.{End, Next}
 use Rattle.surf_run.proofs.EndCauses.{disk_then, line_say, line_write, lines_on, no_fall_say, rose_since}
-use Rattle.surf_run.proofs.Footprint.{within_write}
+use Rattle.surf_run.proofs.Footprint.{pages_say, pages_write, within_write}
 use Rattle.surf_run.proofs.Moments.{ends_device, ends_next, line_answer, map_of_state, tied_pages, tied_stands, tied_still}
 
 -- What is known of the reply that tells a change: it is `device`, where a call failed; or the run goes on; or damage was met.
@@ -152,8 +152,8 @@ module _ {T : Type 0} (kind : Kind) (tells tells_output : Bool) (request : Reque
   pub change_answers : ((s : State) → IsTrue tells → Represents kind.spelling kind.filter_bytes before s a → core.AnswersRequest kind.spelling kind.filter_bytes s request (told_change changed) store a mid)
       → ((reply : Reply) → IsTrue tells_output → told_change changed ≡ Some reply → Says (end_by reply) reply result mid b) → (IsTrue tells → a.leaves a.moment a.seen.held)
       → ((damage : Damage) → changed ≡ Err (error.Damaged damage) → ⊥) → WriteMoves 0 (page_bytes * before.manifest.version.pages) a mid
-      → AnswersLine kind tells tells_output request result before store a b
-  change_answers answered says current unharmed moves =
+      → store.manifest.version.pages ≡ before.manifest.version.pages → AnswersLine kind tells tells_output request result before store a b
+  change_answers answered says current unharmed moves kept =
       let written = line_write 0 (page_bytes * before.manifest.version.pages) a mid moves in
       record {
         answered = λ s tell output tied. change_ends kind s request changed before store result a mid b tied (answered s tell tied) told unharmed runs few moves.beside
@@ -162,6 +162,7 @@ module _ {T : Type 0} (kind : Kind) (tells tells_output : Bool) (request : Reque
         cause = change_cause changed result a mid b told ends (LineShows (IsTrue tells × IsTrue tells_output) before.tables request) written.counts (no_fall_say mid b say)
             (λ damage is five. absurd (unharmed damage is));
         moves = lines_on a mid b written (line_say mid b say);
+        within = pages_say before store a mid b (pages_write before store a mid kept moves) say;
       }
 
 -- ---- a reply that is not the last

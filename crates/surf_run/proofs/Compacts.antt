@@ -30,6 +30,7 @@ use Rattle.surf_run.specs.declared.line_end.LineEnd.TheVariants.{End}
 use Rattle.surf_run.proofs.Calms.{says_damage}
 use Rattle.surf_run.proofs.Changes.{ChangeTold, change_cause, change_ends, change_runs, some_same}
 use Rattle.surf_run.proofs.EndCauses.{line_say, lines_on, no_fall_say}
+use Rattle.surf_run.proofs.Footprint.{pages_say}
 use Rattle.surf_run.proofs.Tends.{some_moves}
 use Rattle.table_file.specs.Opened.{Opened}
 use Rattle.table_model.specs.Tables.{FilterBytes}
@@ -107,9 +108,9 @@ module _ {T : Type 0} (kind : Kind) (tells tells_output : Bool) (changed : Resul
 
   pub compact_answers : ((s : State) → IsTrue tells → Represents kind.spelling kind.filter_bytes before s a → core.AnswersRequest kind.spelling kind.filter_bytes s Compact (told_change changed) store a mid)
       → ((reply : Reply) → IsTrue tells_output → told_change changed ≡ Some reply → Says (end_by reply) reply result mid b) → (IsTrue tells → a.leaves a.moment a.seen.held)
-      → (IsTrue tells → IfErr changed (IsScanShown before.tables mid.seen.held))
+      → (IsTrue tells → IfErr changed (IsScanShown before.tables mid.seen.held)) → store.manifest.version.pages ≡ before.manifest.version.pages
       → AnswersLine kind tells tells_output Compact result before store a b
-  compact_answers answered says current shown = record {
+  compact_answers answered says current shown kept = record {
     answered = λ s tell output tied.
         let by = answered s tell tied in
         change_ends kind s Compact changed before store result a mid b tied by told
@@ -119,4 +120,5 @@ module _ {T : Type 0} (kind : Kind) (tells tells_output : Bool) (changed : Resul
     cause = change_cause changed result a mid b told ends (LineShows (IsTrue tells × IsTrue tells_output) before.tables Compact) moved.counts (no_fall_say mid b say)
         (λ damage is five both. compact_shows before.tables changed damage is result mid b say.seen (shown both.0) (λ reply told. says reply both.1 told) five);
     moves = lines_on a mid b moved (line_say mid b say);
+    within = pages_say before store a mid b (record { pages = kept; within = within }) say;
   }

@@ -38,7 +38,7 @@ use Rattle.surf_run.specs.declared.line_end.LineEnd.TheVariants.{End, Next, Quit
 use Rattle.surf_run.proofs.Changes.{some_same}
 use Rattle.surf_run.proofs.Dialogues.{between_made, step_as, tend_as}
 use Rattle.surf_run.proofs.EndCauses.{cause_as, cause_since, causes_later, causes_since, disk_then, line_say, line_write, lines_on, no_fall_say, rose_since}
-use Rattle.surf_run.proofs.Footprint.{within_on, within_say, within_write}
+use Rattle.surf_run.proofs.Footprint.{pages_on, pages_say, pages_write, within_on, within_say, within_write}
 use Rattle.surf_run.proofs.LastLines.{last_line}
 use Rattle.surf_run.proofs.LoadSteps.{answer_makes, answer_stepped, refused_stays, step_slices}
 use Rattle.surf_run.proofs.Moments.{stands_still, tied_pages, tied_stands}
@@ -83,7 +83,7 @@ other_opens a b why is = elim is [ inl memory ↦ subst IsOpening (sym memory) t
 
 module _ (kind : Kind) (tells tells_output : Bool) (step : Entry) {T : Type 0} (written : Result T StoreError) (before store : StoreValue) (a mid : World)
     (stopped : store.stopped ≡ stopped_by written) (few : store.manifest.slot ≤ 1) (moves : WriteMoves 0 (page_bytes * before.manifest.version.pages) a mid) (now_a : SaidByNow a)
-    (current : IsTrue tells → a.leaves a.moment a.seen.held)
+    (current : IsTrue tells → a.leaves a.moment a.seen.held) (kept : store.manifest.version.pages ≡ before.manifest.version.pages)
     (answered : (s : State) → IsTrue tells → Represents kind.spelling kind.filter_bytes before s a → core.AnswersRequest kind.spelling kind.filter_bytes s (change_of step) (told_change written) store a mid) where
   abbrev Both : State → Image → Type 0
   Both s image = StandsForMap kind.spelling (state_map s) image ⊎ StandsForMap kind.spelling (state_map (answer kind.filter_bytes s (change_of step)).1) image
@@ -112,6 +112,7 @@ module _ (kind : Kind) (tells tells_output : Bool) (step : Entry) {T : Type 0} (
     silent = moves.beside;
     cause = tt;
     moves = line_write 0 (page_bytes * before.manifest.version.pages) a mid moves;
+    within = pages_write before store a mid kept moves;
   }
 
   module _ (why : StoreError) (is : written ≡ Err why) (other : IsOther a mid why) (b : World) (status : ℕ) (now_mid : SaidByNow mid) (say : SayMoves mid b)
@@ -166,6 +167,7 @@ module _ (kind : Kind) (tells tells_output : Bool) (step : Entry) {T : Type 0} (
       silent = tt;
       cause = ended_cause;
       moves = lines_on a mid b (line_write 0 (page_bytes * before.manifest.version.pages) a mid moves) (line_say mid b say);
+      within = pages_say before store a mid b (pages_write before store a mid kept moves) say;
     }
 
 -- ---- with its merge slice
@@ -181,6 +183,7 @@ step_ended IsMade IsOther kind tells tells_output step status before store a b e
   silent = tt;
   cause = ended.cause;
   moves = ended.moves;
+  within = ended.within;
 }
 
 module _ (kind : Kind) (tells tells_output : Bool) (step : Entry) (done : Bool) (before between : StoreValue) (a mid : World) (now_mid : SaidByNow mid)
@@ -245,6 +248,7 @@ module _ (kind : Kind) (tells tells_output : Bool) (step : Entry) (done : Bool) 
     silent = slice.silent ∙ changes.silent;
     cause = tt;
     moves = lines_on a mid b changes.moves (slice_moves Next slice);
+    within = pages_on before between new a mid b changes.within slice.within;
   }
   step_made Quit other slice = record {
     made = λ s tell output tied. absurd (sliced Quit slice s tell output tied).ends;
@@ -252,6 +256,7 @@ module _ (kind : Kind) (tells tells_output : Bool) (step : Entry) (done : Bool) 
     silent = slice.silent ∙ changes.silent;
     cause = tt;
     moves = lines_on a mid b changes.moves (slice_moves Quit slice);
+    within = pages_on before between new a mid b changes.within slice.within;
   }
   step_made (End status) other slice = absurd (other status refl)
 
@@ -285,4 +290,5 @@ module _ (kind : Kind) (tells tells_output : Bool) (step : Entry) (done : Bool) 
     cause = inr (cause_since (λ w. IsTrue tells → MeetsUnsaid a w) (End status) a mid b changes.moves.counts
         (cause_as (SliceShows (IsTrue tells) new.tables) (λ w. IsTrue tells → MeetsUnsaid a w) (End status) mid b (λ shows told. (new.tables, shows told, said_same (End status) slice)) slice.cause));
     moves = lines_on a mid b changes.moves (slice_moves (End status) slice);
+    within = pages_on before between new a mid b changes.within slice.within;
   }

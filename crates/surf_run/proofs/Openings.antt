@@ -11,6 +11,7 @@ use Rattle.image_model.specs.Opening.{FirstDamage}
 use Rattle.image_model.specs.Stands.{IsStateOf}
 use Rattle.line_model.specs.Replies.{text_of}
 use Rattle.line_model.specs.Replies as replies
+use Rattle.manifest_model.proofs.Versions.{one_version}
 use Rattle.manifest_model.specs.Slots.{IsNoStore, IsVersionOf}
 use Rattle.manifest_model.specs.Version.{Version}
 use Rattle.map_model.specs.SortedMap.{Bytes}
@@ -23,14 +24,14 @@ use Rattle.store_core.specs.Opening.{IsOpenAnswer, IsOpenRefusal}
 use Rattle.store_core.specs.Represents.{Represents}
 use Rattle.store_core.specs.declared.error.StoreError.{StoreError}
 use Rattle.store_core.specs.declared.error.StoreError.TheVariants as error
-use Rattle.surf_run.specs.Causes.{DiskFailed, SayFailed, StatusCause}
+use Rattle.surf_run.specs.Causes.{DiskFailed, SayFailed, StatusCause, WritesWithin}
 use Rattle.surf_run.specs.Crash.{EachImageStandsFor, HasMap}
 use Rattle.surf_run.specs.ServedOrNot.{TellsDamage}
 use Rattle.surf_run.specs.Kind.{Kind}
 use Rattle.surf_run.specs.Open.{IsFreeText, IsOpening, IsOpeningText, OpenMoves, opening_status, opening_text}
 use Rattle.surf_run.specs.Serving.{ServeInvariant}
 use Rattle.surf_run.proofs.EndCauses.{disk_then, no_fall_none, no_fall_say, rose_since}
-use Rattle.surf_run.proofs.Footprint.{within_none, within_still}
+use Rattle.surf_run.proofs.Footprint.{within_none, within_on, within_still}
 use Rattle.surf_run.proofs.History.{ack_none}
 use Rattle.surf_run.proofs.Moments.{map_of_image, map_of_state, torn_none}
 use Rattle.surf_run.proofs.Outcomes.{served_none}
@@ -231,3 +232,10 @@ is_store v image version none = elim version [
   | inl first ↦ none.0 first.here.is_open
   | inr second ↦ none.1 second.here.is_open
 ]
+
+-- an image has one version: what is done within the pages of the one that was opened is within those of each
+pub opened_within : (v opened : Version) (old mid new : World) → IsVersionOf v old.seen.held → IsVersionOf opened old.seen.held → OpenMoves old mid → WritesWithin (page_bytes * opened.pages) mid new
+    → WritesWithin (page_bytes * v.pages) old new
+opened_within v opened old mid new is there still writes =
+    within_on (page_bytes * v.pages) old mid new (within_still (page_bytes * v.pages) old mid still.held still.time)
+    (subst (λ (u : Version). WritesWithin (page_bytes * u.pages) mid new) (one_version old.seen.held opened v there is) writes)

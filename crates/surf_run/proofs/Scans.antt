@@ -35,7 +35,7 @@ use Rattle.surf_run.specs.declared.line_end.LineEnd.TheVariants.{End, Next}
 use Rattle.surf_run.proofs.Calms.{limited_step, runs_any, status_of, still_device, still_next}
 use Rattle.surf_run.proofs.EndCauses.{line_read, line_say, lines_on, rose_since, rose_then}
 use Rattle.surf_run.specs.Causes.{IfDevice}
-use Rattle.surf_run.proofs.Footprint.{within_still}
+use Rattle.surf_run.proofs.Footprint.{pages_say, pages_still, within_still}
 use Rattle.surf_run.proofs.Moments.{tied_stands, tied_still}
 
 -- ---- why it is refused
@@ -114,6 +114,7 @@ module _ (kind : Kind) (request : Request) (store : StoreValue) (result : LineEn
       running = runs_any result store.stopped runs;
       cause = cause;
       moves = lines_on a mid b (line_read moves.0 a mid moves.1) (line_say mid b say);
+      within = pages_say store store a mid b (pages_still store store a mid refl moves.1.held moves.1.time) say;
     }
 
   module _ (s : State) (few : store.manifest.slot ≤ 1) (tied : Represents kind.spelling kind.filter_bytes store s a) (reads : IsBounded request → mid.seen.reads ≤ a.seen.reads + reply_bound s request) where

@@ -26,7 +26,7 @@ use Rattle.surf_run.specs.declared.line_end.LineEnd.{LineEnd}
 use Rattle.surf_run.specs.declared.line_end.LineEnd.TheVariants.{End, Next, Quit}
 use Rattle.surf_run.proofs.Dialogues.{between_made, between_none, step_as, tend_as}
 use Rattle.surf_run.proofs.EndCauses.{cause_as, cause_since, causes_later, causes_since, lines_on}
-use Rattle.surf_run.proofs.Footprint.{within_on}
+use Rattle.surf_run.proofs.Footprint.{pages_on, within_on}
 use Rattle.surf_run.proofs.History.{reached_here, reached_on}
 use Rattle.table_model.specs.Tables.{FilterBytes}
 
@@ -115,6 +115,7 @@ module _ (kind : Kind) (tells tells_output : Bool) (request : Request) (end : Li
     cause = cause_as (LineShows (IsTrue tells × IsTrue tells_output) store.tables request) (ServedShows (IsTrue tells × IsTrue tells_output) store.tables new.tables request) end a b
         (λ shows told. inl (shows told)) answers.cause;
     moves = answers.moves;
+    within = answers.within;
   }
 
 -- ---- a line with a slice behind it
@@ -226,4 +227,5 @@ module _ (kind : Kind) (tells tells_output : Bool) (request : Request) (has : ha
     cause = cause_since (ServedShows (IsTrue tells × IsTrue tells_output) store.tables new.tables request) end a mid b answers.moves.counts
         (cause_as (SliceShows (IsTrue tells) new.tables) (ServedShows (IsTrue tells × IsTrue tells_output) store.tables new.tables request) end mid b (λ shows told. inr (has, ends_onward told.1, shows told.0)) slice.cause);
     moves = lines_on a mid b answers.moves slice_moves;
+    within = pages_on store between new a mid b answers.within slice.within;
   }

@@ -12,7 +12,7 @@ use Rattle.state_model.specs.Steps.{Step}
 use Rattle.store_core.specs.Answers.{HasCause}
 use Rattle.store_core.specs.StoreValue.{StoreValue}
 use Rattle.store_core.specs.Represents.{Represents}
-use Rattle.surf_run.specs.Causes.{EndCause, LineMoves, LineShows, WritesWithin}
+use Rattle.surf_run.specs.Causes.{EndCause, LineMoves, LineShows, WithinPages, WritesWithin}
 use Rattle.surf_run.specs.Crash.{EachImageStandsFor, HasMapAfter, HasOldOrNewMap}
 use Rattle.surf_run.specs.Dialogue.{IsBounded, reply_bound}
 use Rattle.surf_run.specs.Kind.{Kind}
@@ -69,3 +69,4 @@ pub record AnswersLine (kind : Kind) (tells tells_output : Bool) (request : Requ
   pub running : RunsOn end new.stopped
   pub cause : EndCause (LineShows (IsTrue tells × IsTrue tells_output) store.tables request) end a b
   pub moves : LineMoves a b
+  pub within : WithinPages store new a b

@@ -1,5 +1,6 @@
 -- Why a run ends, what it may change, and what never falls.
-use Rattle.std.specs.Prelude.{◌≡◌, ◌⊎◌, ◌≤◌, ◌++◌, ℕ, List, true}
+use Rattle.std.specs.Prelude.{◌≡◌, ◌⊎◌, ◌≤◌, ◌*◌, ◌++◌, ℕ, List, true}
+use Rattle.block_model.specs.Pages.{page_bytes}
 use Rattle.byte_fields.specs.declared.parts.Damage.{Damage}
 use Rattle.disk_trait.specs.World.{Image, Passes, Rose, Torn, World}
 use Rattle.line_model.specs.Replies.{Reply, text_of}
@@ -10,6 +11,7 @@ use Rattle.state_model.specs.PlayLaws.{has_slice}
 use Rattle.state_model.specs.Script.{Onward, turn_of}
 use Rattle.store_core.specs.Getting.{IsFaultIn}
 use Rattle.store_core.specs.Scans.{IsScanShown}
+use Rattle.store_core.specs.StoreValue.{StoreValue}
 use Rattle.store_core.specs.declared.error.StoreError.{StoreError}
 use Rattle.store_core.specs.declared.error.StoreError.TheVariants as error
 use Rattle.surf_run.specs.declared.line_end.LineEnd.{LineEnd}
@@ -50,6 +52,11 @@ EndsAt wanted status old new = (status ≡ wanted) ⊎ (status ≡ 7) ⊎ ((stat
 pub record WritesWithin (n : ℕ) (old new : World) : Type 0 where
   pub held : Torn 0 n old.seen.held new.seen.held
   pub time : Passes (Torn 0 n) old new
+
+-- A store has as many pages as before, and nothing changes beyond them.
+pub record WithinPages (store new : StoreValue) (a b : World) : Type 0 where
+  pub pages : new.manifest.version.pages ≡ store.manifest.version.pages
+  pub within : WritesWithin (page_bytes * store.manifest.version.pages) a b
 
 -- what answering lines does: nothing is taken, and no count of faults falls
 pub record LineMoves (old new : World) : Type 0 where

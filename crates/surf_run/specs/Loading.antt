@@ -14,7 +14,7 @@ use Rattle.store_core.specs.StoreValue.{StoreValue}
 use Rattle.store_core.specs.Represents.{Represents}
 use Rattle.store_core.specs.declared.error.StoreError.{StoreError}
 use Rattle.store_core.specs.declared.error.StoreError.TheVariants as error
-use Rattle.surf_run.specs.Causes.{EndCause, LineMoves, MeetsUnsaid, NoFall, WritesWithin}
+use Rattle.surf_run.specs.Causes.{EndCause, LineMoves, MeetsUnsaid, NoFall, WithinPages, WritesWithin}
 use Rattle.surf_run.specs.Crash.{EachImageStandsFor, HasOldOrNewMap}
 use Rattle.surf_run.specs.Kind.{Kind}
 use Rattle.surf_run.specs.Loads.{FailsAt, HasFirstSteps, IsPassedOver, StepMade, StepsMade, change_of}
@@ -81,6 +81,7 @@ pub record MakesStep (IsMade : State → Bool → Type 0) (kind : Kind) (tells t
   pub silent : IfOk result (λ done. b.beside ≡ a.beside)
   pub cause : IfErr result (λ status. StepCause (IsTrue tells) status a b)
   pub moves : LineMoves a b
+  pub within : WithinPages store new a b
 
 -- ---- all of them
 

@@ -1,5 +1,6 @@
 -- What a run promises, clause by clause.
-use Rattle.std.specs.Prelude.{◌≡◌, ◌⊎◌, ℕ, Bool, true, List, IsTrue, None}
+use Rattle.std.specs.Prelude.{◌≡◌, ◌⊎◌, ◌*◌, ℕ, Bool, true, List, IsTrue, None}
+use Rattle.block_model.specs.Pages.{page_bytes}
 use Rattle.byte_fields.specs.Faults.{Fault}
 use Rattle.byte_fields.specs.declared.parts.Damage.{Damage}
 use Rattle.clap.specs.Walk.{Text}
@@ -8,7 +9,8 @@ use Rattle.filter_api.specs.declared.settings.Field.{Field}
 use Rattle.image_model.specs.Opening.{FirstDamage}
 use Rattle.image_model.specs.Stands.{IsStateOf}
 use Rattle.manifest.specs.NewManifest.{has_open}
-use Rattle.manifest_model.specs.Slots.{IsNoStore}
+use Rattle.manifest_model.specs.Slots.{IsNoStore, IsVersionOf}
+use Rattle.manifest_model.specs.Version.{Version}
 use Rattle.map_model.specs.SortedMap.{Bytes}
 use Rattle.outside.specs.Streams.{SayMoves}
 use Rattle.program_words.specs.Asked.{AreRefusedWords, HasBadNumber, IsFormat, IsGrow, IsHelp, IsLoadInRange, IsServe, OpensStore, OpensWithoutGrowing}
@@ -18,7 +20,7 @@ use Rattle.program_words.specs.declared.new_store.NewStore.{NewStore}
 use Rattle.program_words.specs.declared.new_store.Wanted.{Wanted}
 use Rattle.state_model.specs.State.{State}
 use Rattle.state_model.specs.View.{state_map}
-use Rattle.surf_run.specs.Causes.{EndsAt, IsServing, NoFall, RunMeetsDamage, StatusCause}
+use Rattle.surf_run.specs.Causes.{EndsAt, IsServing, NoFall, RunMeetsDamage, StatusCause, WritesWithin}
 use Rattle.surf_run.specs.ServedOrNot.{Completed, HasNoState, NoLineAnswered, OpenedThenServed, OpensNothing, ServedOrNot, SomeFailed, TellsDamage}
 use Rattle.surf_run.specs.Kind.{Kind}
 use Rattle.surf_run.specs.Loads.{IsLoading, LoadEnds, Loads}
@@ -127,6 +129,9 @@ pub record RunContract {X : Type 0} (world : X → World) (tells tells_input tel
   pub unopened :
       IsTrue tells → IsTrue tells_output → OpensNothing kind.spelling first_fault (world old).seen.held → OpensStore words
       → Unserved (IsOpeningText kind.spelling first_fault (world old).seen.held) status (world old) (world new)
+  -- Where a version opens, whether or not a state stands there, nothing changes beyond its pages: neither what the device reads as,
+  -- nor what a crash may leave at any moment.
+  pub within : (v : Version) → IsTrue tells → IsVersionOf v (world old).seen.held → OpensStore words → WritesWithin (page_bytes * v.pages) (world old) (world new)
   -- Where opening finds damage, the status says so, but for the device, memory and a last line that cannot be said.
   pub told_of_damage :
       (d : Damage) → IsTrue tells → FirstDamage kind.spelling (filter_fault_of first_fault) (world old).seen.held d → OpensStore words

@@ -14,7 +14,7 @@ use Rattle.store_core.specs.Answers.{HasCause}
 use Rattle.store_core.specs.StoreValue.{StoreValue}
 use Rattle.store_core.specs.Represents.{Represents}
 use Rattle.surf_run.specs.Answering.{RunsOn}
-use Rattle.surf_run.specs.Causes.{EndCause, LineMoves, NoFall, RunShows, WritesWithin}
+use Rattle.surf_run.specs.Causes.{EndCause, LineMoves, NoFall, RunShows, WithinPages, WritesWithin}
 use Rattle.surf_run.specs.Crash.{EachImageStandsFor, KeepsAcknowledged, WasStateAt}
 use Rattle.surf_run.specs.Dialogue.{AnsweredLines, AreBounded}
 use Rattle.surf_run.specs.Holding.{PendingLine, with_newline}
@@ -98,3 +98,4 @@ pub record AnswersPart {X : Type 0} (world : X → World) (kind : Kind) (tells t
   pub running : RunsOn end new.stopped
   pub cause : EndCause (RunShows (IsTrue tells × IsTrue tells_output)) end (world a) (world b)
   pub moves : LineMoves (world a) (world b)
+  pub within : WithinPages store new (world a) (world b)

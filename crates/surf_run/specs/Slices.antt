@@ -11,7 +11,7 @@ use Rattle.store_core.specs.Answers.{HasCause}
 use Rattle.store_core.specs.StoreValue.{StoreValue}
 use Rattle.store_core.specs.Represents.{Represents}
 use Rattle.surf_run.specs.Answering.{LineAnswer, RunsOn, Whole}
-use Rattle.surf_run.specs.Causes.{EndCause, LineMoves, NoFall, ServedShows, SliceShows, WritesWithin}
+use Rattle.surf_run.specs.Causes.{EndCause, LineMoves, NoFall, ServedShows, SliceShows, WithinPages, WritesWithin}
 use Rattle.surf_run.specs.Crash.{EachImageStandsFor, HasMap, WasStateAt}
 use Rattle.surf_run.specs.Dialogue.{line_bound, slice_blocks}
 use Rattle.surf_run.specs.Kind.{Kind}
@@ -49,6 +49,7 @@ pub record MakesSlice (kind : Kind) (tells : Bool) (end : LineEnd) (store new : 
   pub running : RunsOn end new.stopped
   pub cause : EndCause (SliceShows (IsTrue tells) new.tables) end a b
   pub counts : NoFall a b
+  pub within : WithinPages store new a b
 
 -- ---- a line with its merge slice
 
@@ -80,3 +81,4 @@ pub record ServesLine (kind : Kind) (tells tells_output : Bool) (request : Reque
   pub running : RunsOn end new.stopped
   pub cause : EndCause (ServedShows (IsTrue tells × IsTrue tells_output) store.tables new.tables request) end a b
   pub moves : LineMoves a b
+  pub within : WithinPages store new a b

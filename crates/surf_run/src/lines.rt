@@ -1,9 +1,10 @@
 //! Lines in, replies out.
-ghost use Rattle.std.specs.Prelude.{◌≡◌, ◌⊎◌, ◌<◌, ◌≤◌, ◌++◌, [], ◌∷◌, List, ℕ, false, length, IsTrue};
+ghost use Rattle.std.specs.Prelude.{◌≡◌, ◌⊎◌, ◌<◌, ◌≤◌, ◌*◌, ◌++◌, [], ◌∷◌, List, ℕ, false, length, IsTrue};
+ghost use Rattle.block_model.specs.Pages.{page_bytes};
 ghost use Rattle.key_base.specs.Limits.{piece_bytes};
 ghost use Rattle.state_model.specs.State.{State};
 ghost use Rattle.store_commands.specs.Cutting.{NoNewline};
-ghost use Rattle.surf_run.specs.Causes.{IsServing, LineMoves, NoFall, ShowsSomeDamage, StatusCause};
+ghost use Rattle.surf_run.specs.Causes.{IsServing, LineMoves, NoFall, ShowsSomeDamage, StatusCause, WritesWithin};
 ghost use Rattle.surf_run.specs.Kind.{filter_kind};
 ghost use Rattle.surf_run.specs.Outcome.{EndOfServe, Outcome};
 ghost use Rattle.surf_run.specs.Serving.{AnswersPart, ServeInvariant};
@@ -82,6 +83,7 @@ fn end_input<F: RangeFilter, W: Outside>(
     ensures shown { IsTrue W.tells → IsTrue W.tells_output → result ≡ 5 → ShowsSomeDamage (W.world out.new) }
     ensures statuses { (result ≡ 0) ⊎ (result ≡ 4) ⊎ (result ≡ 5) ⊎ (result ≡ 6) }
     ensures moves { LineMoves (W.world out.old) (W.world out.new) }
+    ensures within { WritesWithin (page_bytes * store.old.manifest.version.pages) (W.world out.old) (W.world out.new) }
 {
     if pending.is_empty() {
         return 0;
@@ -129,6 +131,7 @@ pub(crate) fn serve<F: RangeFilter, W: Outside>(
     ensures shown { IsTrue W.tells → IsTrue W.tells_output → result ≡ 5 → ShowsSomeDamage (W.world out.new) }
     ensures statuses { IsServing result ⊎ (result ≡ 5) }
     ensures counts { NoFall (W.world out.old) (W.world out.new) }
+    ensures within { WritesWithin (page_bytes * store.old.manifest.version.pages) (W.world out.old) (W.world out.new) }
 {
     let mut left = MAX_INPUT_BYTES;
     while left > 0 {

@@ -9,7 +9,8 @@ ghost use Rattle.image_model.specs.Stands.{IsStateOf};
 ghost use Rattle.line_model.specs.Limits.{limit_of};
 ghost use Rattle.line_model.specs.Requests.{Seek};
 ghost use Rattle.load_gen.specs.Summary.{summary_of, summary_text};
-ghost use Rattle.manifest_model.specs.Slots.{IsNoStore};
+ghost use Rattle.manifest_model.specs.Slots.{IsNoStore, IsVersionOf};
+ghost use Rattle.manifest_model.specs.Version.{Version};
 ghost use Rattle.merge_rows.specs.Reads.{OnlyReads};
 ghost use Rattle.outside.specs.Streams.{SayMoves, SaysPrefix};
 ghost use Rattle.state_model.specs.State.{State};
@@ -20,7 +21,7 @@ ghost use Rattle.store_core.specs.Counts.{IsCountRefusal};
 ghost use Rattle.store_core.specs.Getting.{IsUndamaged};
 ghost use Rattle.store_core.specs.Scans.{IsScanShown};
 ghost use Rattle.store_core.specs.Represents.{Represents};
-ghost use Rattle.surf_run.specs.Causes.{IfDevice, LineMoves, RunMeetsDamage, SayFailed, ShowsSomeDamage, StatusCause};
+ghost use Rattle.surf_run.specs.Causes.{IfDevice, LineMoves, RunMeetsDamage, SayFailed, ShowsSomeDamage, StatusCause, WithinPages, WritesWithin};
 ghost use Rattle.surf_run.specs.ServedOrNot.{HasNoState, NoLineAnswered, OpensNothing, SomeFailed, TellsDamage};
 ghost use Rattle.surf_run.specs.Kind.{filter_kind};
 ghost use Rattle.surf_run.specs.Loading.{IsChanged, IsStepped, LoadInvariant, MakesStep, StepCause, is_passed_over};
@@ -59,6 +60,7 @@ fn write_step<F: RangeFilter, W: Outside>(
         → AnswersRequest F.spelling (filter_bytes_of F.spelling F.built_cutoff) s (change_of (entry_of step.key step.value)) (told_change result) store.new (W.world out.old) (W.world out.new) }
     ensures refused { MatchResult result (λ _. IsTried store.old.stopped (limit_of (change_of (entry_of step.key step.value)))) (IsWriteRefusal store.old.stopped (limit_of (change_of (entry_of step.key step.value))) (W.world out.old) (W.world out.new)) }
     ensures stopped { store.new.stopped ≡ stopped_by result }
+    ensures pages { store.new.manifest.version.pages ≡ store.old.manifest.version.pages }
     ensures moves { WriteMoves 0 (page_bytes * store.old.manifest.version.pages) (W.world out.old) (W.world out.new) }
 {
     match step.value {
@@ -120,6 +122,7 @@ fn make_steps<F: RangeFilter, W: Outside>(
     ensures running { IfOk result (λ _. store.new.stopped ≡ false) }
     ensures cause { IfErr result (λ status. StepCause (IsTrue W.tells) status (W.world out.old) (W.world out.new)) }
     ensures moves { LineMoves (W.world out.old) (W.world out.new) }
+    ensures within { WithinPages store.old store.new (W.world out.old) (W.world out.new) }
 {
     let mut steps = LoadGen::new(load.seed);
     let mut refused = 0;
@@ -185,6 +188,7 @@ fn end_load<F: RangeFilter, W: Outside>(
     ensures causes { StatusCause result (W.world out.old) (W.world out.new) }
     ensures statuses { IsLoading result }
     ensures moves { LineMoves (W.world out.old) (W.world out.new) }
+    ensures within { WritesWithin (page_bytes * store.now.manifest.version.pages) (W.world out.old) (W.world out.new) }
 {
     match summarise(store, out) {
         Ok(summary) => say_summary(out, &summary, count, refused),
@@ -201,6 +205,7 @@ fn load_store<F: RangeFilter, W: Outside>(store: Store<F>, out: &mut W, load: Lo
     ensures causes { StatusCause result (W.world out.old) (W.world out.new) }
     ensures statuses { IsLoading result }
     ensures moves { LineMoves (W.world out.old) (W.world out.new) }
+    ensures within { WritesWithin (page_bytes * store.manifest.version.pages) (W.world out.old) (W.world out.new) }
 {
     let mut store = store;
     match make_steps(&mut store, out, load) {
@@ -237,6 +242,8 @@ pub(crate) fn open_and_load<F: RangeFilter, W: Outside>(
     ensures told_of_no_store { IsTrue W.tells → IsNoStore (W.world out.old).seen.held → (result ≡ 8) ⊎ (result ≡ 4) ⊎ (result ≡ 6) ⊎ (result ≡ 7) }
     ensures statuses { IsLoading result ⊎ (result ≡ 8) }
     ensures moves { LineMoves (W.world out.old) (W.world out.new) }
+    // Where a version opens nothing changes beyond its pages.
+    ensures within { (v : Version) → IsTrue W.tells → IsVersionOf v (W.world out.old).seen.held → WritesWithin (page_bytes * v.pages) (W.world out.old) (W.world out.new) }
 {
     match open_or_say::<F, W>(alloc, out) {
         Ok(store) => load_store(store, out, load),

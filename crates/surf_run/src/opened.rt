@@ -1,13 +1,15 @@
 //! A store that stands on a device, opened and served.
-ghost use Rattle.std.specs.Prelude.{◌≡◌, ◌≤◌, ◌≢◌, ◌⊎◌, ◌++◌, ℕ, [], false, IfOk, IsTrue, vec_len};
+ghost use Rattle.std.specs.Prelude.{◌≡◌, ◌≤◌, ◌≢◌, ◌⊎◌, ◌*◌, ◌++◌, ℕ, [], false, IfOk, IsTrue, vec_len};
+ghost use Rattle.block_model.specs.Pages.{page_bytes};
 ghost use Rattle.byte_fields.specs.declared.parts.Damage.{Damage};
 ghost use Rattle.disk_trait.specs.World.{Now};
 ghost use Rattle.image_model.specs.Opening.{FirstDamage};
 ghost use Rattle.image_model.specs.Stands.{IsStateOf};
 ghost use Rattle.key_base.specs.Limits.{piece_bytes};
-ghost use Rattle.manifest_model.specs.Slots.{IsNoStore};
+ghost use Rattle.manifest_model.specs.Slots.{IsNoStore, IsVersionOf};
+ghost use Rattle.manifest_model.specs.Version.{Version};
 ghost use Rattle.state_model.specs.State.{State};
-ghost use Rattle.surf_run.specs.Causes.{IsServing, NoFall, ShowsSomeDamage, StatusCause};
+ghost use Rattle.surf_run.specs.Causes.{IsServing, NoFall, ShowsSomeDamage, StatusCause, WritesWithin};
 ghost use Rattle.surf_run.specs.ServedOrNot.{Completed, HasNoState, NoLineAnswered, OpenedThenServed, OpensNothing, ServedOrNot, SomeFailed, TellsDamage};
 ghost use Rattle.surf_run.specs.Kind.{filter_kind};
 ghost use Rattle.surf_run.specs.Open.{IsFreeText, IsOpeningText};
@@ -65,6 +67,7 @@ fn serve_store<F: RangeFilter, W: Outside>(alloc: Global, store: Store<F>, out: 
     ensures early { result ≡ 7 → (W.world out.new).beside.to_take ≡ (W.world out.old).beside.to_take }
     ensures causes { StatusCause result (W.world out.old) (W.world out.new) }
     ensures counts { NoFall (W.world out.old) (W.world out.new) }
+    ensures within { WritesWithin (page_bytes * store.manifest.version.pages) (W.world out.old) (W.world out.new) }
 {
     match new_buffers(alloc) {
         Ok(buffers) => {
@@ -99,6 +102,8 @@ pub(crate) fn open_and_serve<F: RangeFilter, W: Outside>(alloc: Global, out: &mu
     // Statuses 3, 4 and 6 come only where the count of such faults rose in this call.
     ensures causes { StatusCause result (W.world out.old) (W.world out.new) }
     ensures counts { NoFall (W.world out.old) (W.world out.new) }
+    // Where a version opens nothing changes beyond its pages.
+    ensures within { (v : Version) → IsTrue W.tells → IsVersionOf v (W.world out.old).seen.held → WritesWithin (page_bytes * v.pages) (W.world out.old) (W.world out.new) }
     // For want of memory, and where no store stands, nothing was taken.
     ensures early { (result ≡ 7) ⊎ (result ≡ 8) → (W.world out.new).beside.to_take ≡ (W.world out.old).beside.to_take }
     // Status 5 comes only where opening finds damage, and says the first, or where no state stands and a block that was read

@@ -1,5 +1,5 @@
 //! A store that stands on a device, opened; and the last line of a run that ends without one.
-ghost use Rattle.std.specs.Prelude.{◌≡◌, ◌≤◌, ◌≢◌, ◌⊎◌, ◌++◌, ◌+◌, false, IfErr, IfOk, IsTrue, MatchResult};
+ghost use Rattle.std.specs.Prelude.{◌≡◌, ◌≤◌, ◌≢◌, ◌⊎◌, ◌++◌, ◌+◌, ℕ, false, IfErr, IfOk, IsTrue, MatchResult};
 ghost use Rattle.byte_fields.specs.declared.parts.Damage.{Damage};
 ghost use Rattle.image_model.specs.Opening.{FirstDamage};
 ghost use Rattle.image_model.specs.Stands.{IsStateOf};
@@ -7,7 +7,7 @@ ghost use Rattle.manifest_model.specs.Slots.{IsNoStore, IsVersionOf};
 ghost use Rattle.outside.specs.Streams.{SayMoves, SaysPrefix};
 ghost use Rattle.state_model.specs.State.{State};
 ghost use Rattle.store_core.specs.Represents.{Represents};
-ghost use Rattle.surf_run.specs.Causes.{LineMoves, SayFailed, StatusCause};
+ghost use Rattle.surf_run.specs.Causes.{LineMoves, SayFailed, StatusCause, WritesWithin};
 ghost use Rattle.surf_run.specs.ServedOrNot.{NoLineAnswered, OpensNothing, TellsDamage, opening_bound};
 ghost use Rattle.surf_run.specs.Open.{IsOpening, IsOpeningText, OpenMoves, opening_status, opening_text};
 ghost use Rattle.surf_run.specs.Unserved.{Unserved};
@@ -55,6 +55,7 @@ pub(crate) fn open_or_say<F: RangeFilter, W: Outside>(
     ensures slot { IfOk result (λ store. store.manifest.slot ≤ 1) }
     ensures version { IsTrue W.tells → IfOk result (λ store. IsVersionOf store.manifest.version (W.world out.old).seen.held) }
     ensures still { IfOk result (λ _. OpenMoves (W.world out.old) (W.world out.new)) }
+    ensures unwritten { (n : ℕ) → IfErr result (λ _. WritesWithin n (W.world out.old) (W.world out.new)) }
     // Where no store stands or opening finds damage, the status says so, and so does the last line; and only there.
     ensures unopened { IsTrue W.tells → IsTrue W.tells_output → OpensNothing F.spelling F.first_fault (W.world out.old).seen.held
         → IfErr result (λ status. Unserved (IsOpeningText F.spelling F.first_fault (W.world out.old).seen.held) status (W.world out.old) (W.world out.new)) }

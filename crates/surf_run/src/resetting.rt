@@ -7,12 +7,13 @@ ghost use Rattle.filter_api.specs.declared.settings.Field.{Field};
 ghost use Rattle.image_model.specs.Opening.{FirstDamage};
 ghost use Rattle.image_model.specs.Stands.{IsStateOf, StandsFor};
 ghost use Rattle.key_base.specs.Limits.{last_epoch};
-ghost use Rattle.manifest_model.specs.Slots.{IsNoStore};
+ghost use Rattle.manifest_model.specs.Slots.{IsNoStore, IsVersionOf};
+ghost use Rattle.manifest_model.specs.Version.{Version};
 ghost use Rattle.outside.specs.Streams.{SayMoves, SaysPrefix};
 ghost use Rattle.state_model.specs.State.{State};
 ghost use Rattle.store_core.specs.Represents.{Represents};
 ghost use Rattle.store_core.specs.Resetting.{IsResetRefusal, MayReset, Resets};
-ghost use Rattle.surf_run.specs.Causes.{LineMoves, SayFailed, StatusCause};
+ghost use Rattle.surf_run.specs.Causes.{LineMoves, SayFailed, StatusCause, WritesWithin};
 ghost use Rattle.surf_run.specs.Formats.{bad_settings_text};
 ghost use Rattle.surf_run.specs.Kind.{filter_kind};
 ghost use Rattle.surf_run.specs.Open.{IsOpeningText, OpenMoves};
@@ -103,6 +104,7 @@ fn reset_store<F: RangeFilter, W: Outside>(store: Store<F>, out: &mut W, numbers
     ensures causes { StatusCause result (W.world out.old) (W.world out.new) }
     ensures statuses { IsResetEnd result ⊎ (result ≡ 4) ⊎ (result ≡ 6) }
     ensures moves { LineMoves (W.world out.old) (W.world out.new) }
+    ensures within { WritesWithin (page_bytes * store.manifest.version.pages) (W.world out.old) (W.world out.new) }
 {
     let mut store = store;
     let set = set_numbers(&mut store, out, numbers);
@@ -153,6 +155,8 @@ pub(crate) fn open_and_reset<F: RangeFilter, W: Outside>(
     ensures at_ten { IsTrue W.tells → result ≡ 10 → IsInLastEpoch (W.world out.old).seen.held }
     ensures statuses { IsResetting result }
     ensures moves { LineMoves (W.world out.old) (W.world out.new) }
+    // Where a version opens nothing changes beyond its pages.
+    ensures within { (v : Version) → IsTrue W.tells → IsVersionOf v (W.world out.old).seen.held → WritesWithin (page_bytes * v.pages) (W.world out.old) (W.world out.new) }
 {
     match open_or_say::<F, W>(alloc, out) {
         Ok(store) => reset_store(store, out, numbers),

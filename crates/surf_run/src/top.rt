@@ -1,13 +1,15 @@
 //! The top call.
-ghost use Rattle.std.specs.Prelude.{◌≡◌, ◌⊎◌, ◌++◌, map, string_bytes, IsTrue};
+ghost use Rattle.std.specs.Prelude.{◌≡◌, ◌⊎◌, ◌*◌, ◌++◌, map, string_bytes, IsTrue};
+ghost use Rattle.block_model.specs.Pages.{page_bytes};
 ghost use Rattle.byte_fields.specs.declared.parts.Damage.{Damage};
 ghost use Rattle.disk_trait.specs.World.{Now};
 ghost use Rattle.image_model.specs.Opening.{FirstDamage};
 ghost use Rattle.image_model.specs.Stands.{IsStateOf};
-ghost use Rattle.manifest_model.specs.Slots.{IsNoStore};
+ghost use Rattle.manifest_model.specs.Slots.{IsNoStore, IsVersionOf};
+ghost use Rattle.manifest_model.specs.Version.{Version};
 ghost use Rattle.outside.specs.Streams.{SayMoves};
 ghost use Rattle.state_model.specs.State.{State};
-ghost use Rattle.surf_run.specs.Causes.{EndsAt, IsServing, NoFall, RunMeetsDamage, StatusCause};
+ghost use Rattle.surf_run.specs.Causes.{EndsAt, IsServing, NoFall, RunMeetsDamage, StatusCause, WritesWithin};
 ghost use Rattle.surf_run.specs.ServedOrNot.{Completed, HasNoState, NoLineAnswered, OpenedThenServed, OpensNothing, ServedOrNot, SomeFailed, TellsDamage};
 ghost use Rattle.surf_run.specs.Kind.{filter_kind};
 ghost use Rattle.surf_run.specs.Loads.{IsLoading, LoadEnds, Loads};
@@ -73,6 +75,7 @@ fn run_asked<F: RangeFilter, W: Outside>(alloc: Global, asked: Asked, out: &mut 
     ensures only_at_damage { IsTrue W.tells → IsTrue W.tells_input → IsTrue W.tells_output → result ≡ 5 → TellsDamage F.spelling F.first_fault (W.world out.old).seen.held (W.world out.old) (W.world out.new) ⊎ (HasNoState F.spelling (W.world out.old).seen.held × RunMeetsDamage (IsLoadAsk asked) (W.world out.old) (W.world out.new)) }
     ensures unopened { IsTrue W.tells → IsTrue W.tells_output → OpensNothing F.spelling F.first_fault (W.world out.old).seen.held
         → IfOpens asked (Unserved (IsOpeningText F.spelling F.first_fault (W.world out.old).seen.held) result (W.world out.old) (W.world out.new)) }
+    ensures within { (v : Version) → IsTrue W.tells → IsVersionOf v (W.world out.old).seen.held → IfOpens asked (WritesWithin (page_bytes * v.pages) (W.world out.old) (W.world out.new)) }
     ensures told_of_damage { (d : Damage) → IsTrue W.tells → FirstDamage F.spelling (filter_fault_of F.first_fault) (W.world out.old).seen.held d
         → IfOpens asked ((result ≡ 5) ⊎ (result ≡ 4) ⊎ (result ≡ 6) ⊎ (result ≡ 7)) }
     ensures only_at_no_store { IsTrue W.tells → result ≡ 8 → IfOpensWithoutGrowing asked (IsNoStore (W.world out.old).seen.held) }

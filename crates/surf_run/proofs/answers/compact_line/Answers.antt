@@ -20,4 +20,4 @@ returns g c =
     (stopped_is c.args.store.now.stopped c.compact-changed.new.self.stopped (stopped_by c.compact-changed.result) c.requires.running c.compact-changed.ensures.stopped) c.consistency_law.ensures.slot c.compact-changed.ensures.moves
     (g.met.W.Outside.said_now c.args.out.now) (g.met.W.Outside.said_now c.compact-changed.new.disk) c.say_change.ensures.moves c.say_change.ensures.ends
     (λ s tells tied. c.compact-changed.ensures.answered s tells c.requires.running tied) (λ reply output is. c.say_change.ensures.says reply output is) (λ tells. g.met.W.Disk.current c.args.out.now tells)
-    (λ tells. c.compact-changed.ensures.shown tells)
+    (λ tells. c.compact-changed.ensures.shown tells) c.compact-changed.ensures.pages

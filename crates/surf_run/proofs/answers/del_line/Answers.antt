@@ -21,7 +21,7 @@ returns-clause-answers g c =
     (stopped_is c.args.store.now.stopped c.delete-changed.new.self.stopped (stopped_by c.delete-changed.result) c.requires.running c.delete-changed.ensures.stopped) c.consistency_law.ensures.slot
     (g.met.W.Outside.said_now c.args.out.now) (g.met.W.Outside.said_now c.delete-changed.new.disk) c.say_change.ensures.moves c.say_change.ensures.ends
     (λ s tells tied. c.delete-changed.ensures.answered s tells c.requires.running tied) (λ reply output is. c.say_change.ensures.says reply output is) (λ tells. g.met.W.Disk.current c.args.out.now tells)
-    (write_unharmed c.delete-changed.result c.args.store.now.stopped (limit_of (Del c.args.key.now)) a mid c.delete-changed.ensures.refused) c.delete-changed.ensures.moves
+    (write_unharmed c.delete-changed.result c.args.store.now.stopped (limit_of (Del c.args.key.now)) a mid c.delete-changed.ensures.refused) c.delete-changed.ensures.moves c.delete-changed.ensures.pages
 
 pub returns-clause-onward : goal.returns-clause-onward
 returns-clause-onward g c output is =

@@ -21,4 +21,4 @@ returns g c =
     (stopped_is c.args.store.now.stopped c.flush-changed.new.self.stopped (stopped_by c.flush-changed.result) c.requires.running c.flush-changed.ensures.stopped) c.consistency_law.ensures.slot
     (g.met.W.Outside.said_now c.args.out.now) (g.met.W.Outside.said_now c.flush-changed.new.disk) c.say_change.ensures.moves c.say_change.ensures.ends
     (λ s tells tied. c.flush-changed.ensures.answered s tells c.requires.running tied) (λ reply output is. c.say_change.ensures.says reply output is) (λ tells. g.met.W.Disk.current c.args.out.now tells)
-    (write_unharmed c.flush-changed.result c.args.store.now.stopped None a mid c.flush-changed.ensures.refused) c.flush-changed.ensures.moves
+    (write_unharmed c.flush-changed.result c.args.store.now.stopped None a mid c.flush-changed.ensures.refused) c.flush-changed.ensures.moves c.flush-changed.ensures.pages

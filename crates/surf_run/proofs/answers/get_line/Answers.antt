@@ -25,7 +25,7 @@ returns-in-Ok-Some g c =
     let mid = g.W.Disk.world c.get.new.disk in
     let b = g.W.Disk.world c.say_reply.new.out in
     let after = c.get.follows.lender-at-none in
-    read_answers kind g.W.Disk.tells g.W.Outside.tells_output (Get c.args.key.now) c.args.store.now after (ap (λ (k : StoreValue). k.stopped) c.get.follows.holds-at-none.same) c.requires.running c.say_reply.result a mid b c.get.ensures.gets.moves c.say_reply.ensures.moves
+    read_answers kind g.W.Disk.tells g.W.Outside.tells_output (Get c.args.key.now) c.args.store.now after (ap (λ (k : StoreValue). k.stopped) c.get.follows.holds-at-none.same) (ap (λ (k : StoreValue). k.manifest.version.pages) c.get.follows.holds-at-none.same) c.requires.running c.say_reply.result a mid b c.get.ensures.gets.moves c.say_reply.ensures.moves
     (λ s tells output tied.
     let moves = c.get.ensures.gets.moves in
     let held = c.get.follows.holds-at-none.tied s tells tied in
@@ -45,7 +45,7 @@ returns-in-Ok-None g c =
     let mid = g.W.Disk.world c.get.new.disk in
     let b = g.W.Disk.world c.say_reply-in-Ok-None.new.out in
     let after = c.get.follows.lender-at-none in
-    read_answers kind g.W.Disk.tells g.W.Outside.tells_output (Get c.args.key.now) c.args.store.now after (ap (λ (k : StoreValue). k.stopped) c.get.follows.holds-at-none.same) c.requires.running c.say_reply-in-Ok-None.result a mid b c.get.ensures.gets.moves c.say_reply-in-Ok-None.ensures.moves
+    read_answers kind g.W.Disk.tells g.W.Outside.tells_output (Get c.args.key.now) c.args.store.now after (ap (λ (k : StoreValue). k.stopped) c.get.follows.holds-at-none.same) (ap (λ (k : StoreValue). k.manifest.version.pages) c.get.follows.holds-at-none.same) c.requires.running c.say_reply-in-Ok-None.result a mid b c.get.ensures.gets.moves c.say_reply-in-Ok-None.ensures.moves
     (λ s tells output tied.
     let moves = c.get.ensures.gets.moves in
     let held = c.get.follows.holds-at-none.tied s tells tied in
@@ -63,7 +63,7 @@ returns-in-Err g c =
     let mid = g.W.Disk.world c.get.new.disk in
     let b = g.W.Disk.world c.say_refusal.new.out in
     let after = c.get.follows.lender-at-none in
-    read_answers kind g.W.Disk.tells g.W.Outside.tells_output (Get c.args.key.now) c.args.store.now after (ap (λ (k : StoreValue). k.stopped) c.get.follows.holds-at-none.same) c.requires.running c.say_refusal.result a mid b c.get.ensures.gets.moves c.say_refusal.ensures.moves
+    read_answers kind g.W.Disk.tells g.W.Outside.tells_output (Get c.args.key.now) c.args.store.now after (ap (λ (k : StoreValue). k.stopped) c.get.follows.holds-at-none.same) (ap (λ (k : StoreValue). k.manifest.version.pages) c.get.follows.holds-at-none.same) c.requires.running c.say_refusal.result a mid b c.get.ensures.gets.moves c.say_refusal.ensures.moves
     (λ s tells output tied.
     let moves = c.get.ensures.gets.moves in
     let held = c.get.follows.holds-at-none.tied s tells tied in

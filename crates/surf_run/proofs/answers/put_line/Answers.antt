@@ -21,7 +21,7 @@ returns-clause-answers g c =
     (stopped_is c.args.store.now.stopped c.put-changed.new.self.stopped (stopped_by c.put-changed.result) c.requires.running c.put-changed.ensures.stopped) c.consistency_law.ensures.slot
     (g.met.W.Outside.said_now c.args.out.now) (g.met.W.Outside.said_now c.put-changed.new.disk) c.say_change.ensures.moves c.say_change.ensures.ends
     (λ s tells tied. c.put-changed.ensures.answered s tells c.requires.running tied) (λ reply output is. c.say_change.ensures.says reply output is) (λ tells. g.met.W.Disk.current c.args.out.now tells)
-    (write_unharmed c.put-changed.result c.args.store.now.stopped (limit_of (Put c.args.key.now c.args.value.now)) a mid c.put-changed.ensures.refused) c.put-changed.ensures.moves
+    (write_unharmed c.put-changed.result c.args.store.now.stopped (limit_of (Put c.args.key.now c.args.value.now)) a mid c.put-changed.ensures.refused) c.put-changed.ensures.moves c.put-changed.ensures.pages
 
 pub returns-clause-onward : goal.returns-clause-onward
 returns-clause-onward g c output is =

@@ -7,7 +7,7 @@ use Rattle.surf_run.specs.Kind.{filter_kind}
 use Rattle.surf_run.specs.declared.line_end.LineEnd.TheVariants.{Quit as EndQuit}
 use Rattle.surf_run.proofs.Calms.{quit_step, runs_any, said_cause, still_quit}
 use Rattle.surf_run.proofs.EndCauses.{line_say, no_fall_none}
-use Rattle.surf_run.proofs.Footprint.{within_none}
+use Rattle.surf_run.proofs.Footprint.{pages_none, pages_say, within_none}
 use Rattle.surf_run.proofs.Moments.{tied_stands}
 use Rattle.surf_run.proofs.answers.quit_line.Goals as goal
 
@@ -25,4 +25,7 @@ returns g c = record {
       said_cause c.say_reply.result EndQuit (g.W.Disk.world c.args.out.now) (g.W.Disk.world c.args.out.now) (g.W.Disk.world c.say_reply.new.out) c.say_reply.ensures.cause _ tt (no_fall_none (g.W.Disk.world c.args.out.now));
   moves =
       line_say (g.W.Disk.world c.args.out.now) (g.W.Disk.world c.say_reply.new.out) c.say_reply.ensures.moves;
+  within =
+      let a = g.W.Disk.world c.args.out.now in
+      pages_say c.args.store.now c.args.store.now a a (g.W.Disk.world c.say_reply.new.out) (pages_none c.args.store.now a) c.say_reply.ensures.moves;
 }

@@ -15,6 +15,7 @@ use Rattle.surf_run.specs.Kind.{filter_kind}
 use Rattle.surf_run.specs.declared.line_end.LineEnd.TheVariants.{End, Next}
 use Rattle.surf_run.proofs.Calms.{behind_damage, runs_any, said_cause}
 use Rattle.surf_run.proofs.EndCauses.{no_fall_none, no_fall_say, rose_since}
+use Rattle.surf_run.proofs.Footprint.{pages_still}
 use Rattle.surf_run.proofs.Ranges.{below_most, one_waits, range_cut, range_done, range_fault, walked_read, walked_say}
 use Rattle.surf_run.proofs.Scans.{never_damaged, no_device, no_reads, scan_answers, scan_cause, scan_refused, scan_told}
 use Rattle.table_file.specs.Opened.{Opened}
@@ -69,6 +70,7 @@ returns-in-Ok-false g c =
       running = runs_any c.say_behind.result c.args.store.now.stopped c.requires.running;
       cause = said_cause c.say_behind.result Next a mid b c.say_behind.ensures.cause _ tt read.lines.counts;
       moves = (walked_say a mid b read now_mid c.say_behind.ensures.moves).lines;
+      within = let said = walked_say a mid b read now_mid c.say_behind.ensures.moves in pages_still c.args.store.now c.args.store.now a b refl said.held said.time;
     }
 
 -- ---- a fault
@@ -109,6 +111,7 @@ returns-in-Err-advance g c =
           behind_damage c.args.store.now.tables request why c.say_refusal_behind.result a.seen.held (take c.loop-out.used c.loop-out.buffer) mid b
           (λ d is. subst (IsScanShown c.args.store.now.tables a.seen.held) is shown) read.held say.seen (λ reply is. c.say_refusal_behind.ensures.says reply tell.1 is) ends five);
       moves = (walked_say a mid b read now_mid say).lines;
+      within = let said = walked_say a mid b read now_mid say in pages_still c.args.store.now c.args.store.now a b refl said.held said.time;
     }
 
 -- ---- one more
@@ -181,4 +184,5 @@ returns-in-Err-add_reply g c =
       running = tt;
       cause = inr (inr (refl, rose_since a.beside.say_faults mid.beside.say_faults b.beside.say_faults read.lines.counts.say c.in-Err-add_reply.ensures.cause));
       moves = (walked_say a mid b read now_mid c.add_reply.ensures.moves).lines;
+      within = let said = walked_say a mid b read now_mid c.add_reply.ensures.moves in pages_still c.args.store.now c.args.store.now a b refl said.held said.time;
     }

@@ -9,6 +9,7 @@ use Rattle.surf_run.specs.declared.line_end.LineEnd.TheVariants.{Next, Quit, End
 use Rattle.surf_run.proofs.Texts.{request_held}
 use Rattle.surf_run.proofs.Outcomes.{settled_bye, settled_empty, settled_next, settled_status}
 use Rattle.surf_run.proofs.EndCauses.{cause_runs, end_causes, end_shows, lines_none}
+use Rattle.surf_run.proofs.Footprint.{within_none}
 use Rattle.surf_run.proofs.lines.end_input.Goals as goal
 
 pub returns-then-is_empty-clause-settled : goal.returns-then-is_empty-clause-settled
@@ -53,3 +54,17 @@ returns-in-End-clause-shown g c tells output five =
     let b = g.W.Disk.world c.answer.new.out in
     let by = cause_runs (IsTrue g.W.Disk.tells × IsTrue g.W.Outside.tells_output) c.args.store.now.tables c.answer.new.store.tables (request_of c.as_slice.result.now) (End c.in-End.status) a b c.in-End.ensures.cause in
     end_shows (IsTrue g.W.Disk.tells × IsTrue g.W.Outside.tells_output) c.in-End.status a b by (tells, output) five
+
+-- ---- where it writes
+
+pub returns-then-is_empty-clause-within : goal.returns-then-is_empty-clause-within
+returns-then-is_empty-clause-within g c = within_none _ _
+
+pub returns-in-Next-clause-within : goal.returns-in-Next-clause-within
+returns-in-Next-clause-within g c = c.answer.ensures.within.within
+
+pub returns-in-Quit-clause-within : goal.returns-in-Quit-clause-within
+returns-in-Quit-clause-within g c = c.answer.ensures.within.within
+
+pub returns-in-End-clause-within : goal.returns-in-End-clause-within
+returns-in-End-clause-within g c = c.answer.ensures.within.within

@@ -25,6 +25,7 @@ returns-then-is_empty g c =
       running = c.answer.ensures.running;
       cause = cause_runs _ c.args.store.now.tables c.answer.new.store.tables (request_of c.args.part.now) c.answer.result _ _ c.answer.ensures.cause;
       moves = c.answer.ensures.moves;
+      within = c.answer.ensures.within;
     }
 
 pub returns : goal.returns
@@ -42,4 +43,5 @@ returns g c =
       running = c.answer-end.ensures.running;
       cause = cause_runs _ c.args.store.now.tables c.answer-end.new.store.tables (request_of c.as_slice.result.now) c.answer-end.result _ _ c.answer-end.ensures.cause;
       moves = c.answer-end.ensures.moves;
+      within = c.answer-end.ensures.within;
     }

@@ -6,6 +6,7 @@ use Rattle.surf_run.specs.Serving.{AfterLine, ServeInvariant}
 use Rattle.surf_run.proofs.Texts.{none_here, piece_split, line_more, all_more}
 use Rattle.surf_run.proofs.Progress.{after_more, part_more}
 use Rattle.surf_run.proofs.EndCauses.{cause_since, lines_none, lines_on}
+use Rattle.surf_run.proofs.Footprint.{pages_none, pages_on}
 use Rattle.surf_run.proofs.lines.feed.Goals as goal
 
 pub end_line-requires-clause-one_line : goal.end_line-requires-clause-one_line
@@ -24,6 +25,7 @@ returns-in_default-end_line g c = record {
   running = c.end_line.ensures.running;
   cause = cause_since _ c.end_line.result _ _ _ c.loop-line.invariant.moves.counts c.end_line.ensures.cause;
   moves = lines_on _ _ _ c.loop-line.invariant.moves c.end_line.ensures.moves;
+  within = pages_on c.args.store.now c.loop-line.store c.end_line.new.store _ _ _ c.loop-line.invariant.within c.end_line.ensures.within;
 }
 
 pub loop-line-preserved : goal.loop-line-preserved
@@ -39,6 +41,7 @@ loop-line-preserved g c = record {
       );
   running = c.in-Next.ensures.running;
   moves = lines_on _ _ _ c.loop-line.invariant.moves c.end_line.ensures.moves;
+  within = pages_on c.args.store.now c.loop-line.store c.end_line.new.store _ _ _ c.loop-line.invariant.within c.end_line.ensures.within;
 }
 
 pub returns : goal.returns
@@ -52,6 +55,7 @@ returns g c = record {
   running = c.loop-line.invariant.running;
   cause = tt;
   moves = c.loop-line.invariant.moves;
+  within = c.loop-line.invariant.within;
 }
 
 pub loop-line-init : goal.loop-line-init
@@ -60,4 +64,5 @@ loop-line-init g c = record {
       ([], refl, subst (λ (l : List ℕ). ServeInvariant (filter_kind g.F.RangeFilter.spelling g.F.RangeFilter.built_cutoff) start base l c.args.pending.now c.args.store.now (g.W.Disk.world first) (g.W.Disk.world c.args.out.now)) (sym (append-nil bytes)) served);
   running = c.requires.running;
   moves = lines_none (g.W.Disk.world c.args.out.now);
+  within = pages_none c.args.store.now (g.W.Disk.world c.args.out.now);
 }

@@ -1,7 +1,7 @@
 use Rattle.std.proofs.Common.{◌≡◌, ◌++◌, List, ℕ, length, false}
 use Rattle.std.specs.Prelude.{IsTrue}
 use Rattle.state_model.specs.State.{State}
-use Rattle.surf_run.specs.Causes.{LineMoves}
+use Rattle.surf_run.specs.Causes.{LineMoves, WithinPages}
 use Rattle.surf_run.specs.Kind.{filter_kind}
 use Rattle.surf_run.specs.Serving.{ServeInvariant}
 use Rattle.surf_run.proofs.lines.feed.Given as goal
@@ -15,6 +15,7 @@ invariant-loop-line g l = record {
       × ServeInvariant (filter_kind g.F.RangeFilter.spelling g.F.RangeFilter.built_cutoff) start base (bytes ++ done) l.pending l.store (g.W.Disk.world first) (g.W.Disk.world l.out);
   running : l.store.stopped ≡ false;
   moves : LineMoves (g.W.Disk.world l.fn.out) (g.W.Disk.world l.out);
+  within : WithinPages l.fn.store l.store (g.W.Disk.world l.fn.out) (g.W.Disk.world l.out);
 }
 
 abbrev pub decreases-loop-line : goal.decreases-loop-line

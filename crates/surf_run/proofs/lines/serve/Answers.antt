@@ -6,6 +6,7 @@ use Rattle.surf_run.specs.Kind.{filter_kind}
 use Rattle.surf_run.proofs.Texts.{front_of, taken_more, taken_all}
 use Rattle.surf_run.proofs.Outcomes.{served_take, settled_cut, settled_end, settled_quit}
 use Rattle.surf_run.proofs.EndCauses.{causes_on, end_causes, end_shows, no_fall_on, no_fall_take}
+use Rattle.surf_run.proofs.Footprint.{pages_none, pages_on, pages_take, pages_then}
 use Rattle.surf_run.proofs.lines.serve.Goals as goal
 
 pub loop-left-init : goal.loop-left-init
@@ -13,6 +14,7 @@ loop-left-init g c = record {
   served = λ start base first tells input output same served. ([], same, omega arith, served);
   running = c.requires.running;
   counts = record { read = omega arith; write = omega arith; take = omega arith; say = omega arith };
+  within = pages_none c.args.store.now (g.W.Disk.world c.args.out.now);
 }
 
 pub returns-in-Err-clause-outcome : goal.returns-in-Err-clause-outcome
@@ -54,6 +56,7 @@ loop-left-preserved g c = record {
       );
   running = c.in-Next.ensures.running;
   counts = no_fall_on _ _ _ c.loop-left.invariant.counts (no_fall_on _ _ _ (no_fall_take _ _ c.take.ensures.moves) c.feed.ensures.moves.counts);
+  within = pages_on c.args.store.now c.loop-left.store c.feed.new.store _ _ _ (pages_take c.args.store.now c.loop-left.store _ _ _ c.loop-left.invariant.within c.take.ensures.moves) c.feed.ensures.within;
 }
 
 pub returns-in-Quit-clause-outcome : goal.returns-in-Quit-clause-outcome
@@ -110,3 +113,23 @@ returns-in-End-clause-cause g c =
 pub returns-in-End-clause-shown : goal.returns-in-End-clause-shown
 returns-in-End-clause-shown g c tells output five =
     end_shows (IsTrue g.W.Disk.tells × IsTrue g.W.Outside.tells_output) c.in-End.status (g.W.Disk.world c.take.new.self) (g.W.Disk.world c.feed.new.out) c.in-End.ensures.cause (tells, output) five
+
+-- ---- where it writes
+
+pub returns-in-Err-clause-within : goal.returns-in-Err-clause-within
+returns-in-Err-clause-within g c = (pages_take c.args.store.now c.loop-left.store _ _ _ c.loop-left.invariant.within c.take.ensures.moves).within
+
+pub returns-then-taken-eq0-clause-within : goal.returns-then-taken-eq0-clause-within
+returns-then-taken-eq0-clause-within g c =
+    pages_then c.args.store.now c.loop-left.store _ _ _ (pages_take c.args.store.now c.loop-left.store _ _ _ c.loop-left.invariant.within c.take.ensures.moves) c.end_input.ensures.within
+
+pub returns-in-Quit-clause-within : goal.returns-in-Quit-clause-within
+returns-in-Quit-clause-within g c =
+    pages_then c.args.store.now c.loop-left.store _ _ _ (pages_take c.args.store.now c.loop-left.store _ _ _ c.loop-left.invariant.within c.take.ensures.moves) c.feed.ensures.within.within
+
+pub returns-in-End-clause-within : goal.returns-in-End-clause-within
+returns-in-End-clause-within g c =
+    pages_then c.args.store.now c.loop-left.store _ _ _ (pages_take c.args.store.now c.loop-left.store _ _ _ c.loop-left.invariant.within c.take.ensures.moves) c.feed.ensures.within.within
+
+pub returns-clause-within : goal.returns-clause-within
+returns-clause-within g c = c.loop-left.invariant.within.within

@@ -1,7 +1,7 @@
 use Rattle.std.proofs.Common.{◌≡◌, ◌+◌, ◌^◌, ◌++◌, [], List, ℕ, length, false}
 use Rattle.std.specs.Prelude.{IsTrue}
 use Rattle.state_model.specs.State.{State}
-use Rattle.surf_run.specs.Causes.{NoFall}
+use Rattle.surf_run.specs.Causes.{NoFall, WithinPages}
 use Rattle.surf_run.specs.Kind.{filter_kind}
 use Rattle.surf_run.specs.Serving.{ServeInvariant}
 use Rattle.surf_run.proofs.lines.serve.Given as goal
@@ -16,6 +16,7 @@ invariant-loop-left g l = record {
       × ServeInvariant (filter_kind g.F.RangeFilter.spelling g.F.RangeFilter.built_cutoff) start base taken l.pending l.store (g.W.Disk.world first) (g.W.Disk.world l.out);
   running : l.store.stopped ≡ false;
   counts : NoFall (g.W.Disk.world l.fn.out) (g.W.Disk.world l.out);
+  within : WithinPages l.fn.store l.store (g.W.Disk.world l.fn.out) (g.W.Disk.world l.out);
 }
 
 abbrev pub decreases-loop-left : goal.decreases-loop-left

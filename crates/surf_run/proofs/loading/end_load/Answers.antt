@@ -1,5 +1,8 @@
+use Rattle.std.proofs.Common.{◌*◌}
+use Rattle.block_model.specs.Pages.{page_bytes}
 use Rattle.surf_run.specs.Kind.{filter_kind}
 use Rattle.surf_run.proofs.EndCauses.{line_read, line_say, lines_on}
+use Rattle.surf_run.proofs.Footprint.{within_on, within_say, within_still}
 use Rattle.surf_run.proofs.LoadEnds.{line_causes, line_statuses, load_summed, load_unsummed, sum_causes, sum_opening, sum_shown, sum_statuses}
 use Rattle.surf_run.proofs.loading.end_load.Goals as goal
 
@@ -64,3 +67,21 @@ returns-in-Err-clause-moves g c =
     let mid = g.W.Disk.world c.summarise.new.out in
     let b = g.W.Disk.world c.say_why.new.out in
     lines_on a mid b (line_read c.summarise.ensures.moves.0 a mid c.summarise.ensures.moves.1) (line_say mid b c.say_why.ensures.moves)
+
+-- ---- where it writes
+
+pub returns-in-Ok-clause-within : goal.returns-in-Ok-clause-within
+returns-in-Ok-clause-within g c =
+    let pages = page_bytes * c.args.store.now.manifest.version.pages in
+    let a = g.W.Disk.world c.args.out.now in
+    let mid = g.W.Disk.world c.summarise.new.out in
+    let b = g.W.Disk.world c.say_summary.new.out in
+    within_on pages a mid b (within_still pages a mid c.summarise.ensures.moves.1.held c.summarise.ensures.moves.1.time) (within_say pages mid b c.say_summary.ensures.moves)
+
+pub returns-in-Err-clause-within : goal.returns-in-Err-clause-within
+returns-in-Err-clause-within g c =
+    let pages = page_bytes * c.args.store.now.manifest.version.pages in
+    let a = g.W.Disk.world c.args.out.now in
+    let mid = g.W.Disk.world c.summarise.new.out in
+    let b = g.W.Disk.world c.say_why.new.out in
+    within_on pages a mid b (within_still pages a mid c.summarise.ensures.moves.1.held c.summarise.ensures.moves.1.time) (within_say pages mid b c.say_why.ensures.moves)

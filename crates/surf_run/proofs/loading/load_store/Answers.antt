@@ -1,6 +1,7 @@
 use Rattle.std.proofs.Common.{inl, inr}
 use Rattle.std.specs.Prelude.{IsTrue}
 use Rattle.surf_run.proofs.EndCauses.{causes_on, lines_on}
+use Rattle.surf_run.proofs.Footprint.{pages_then}
 use Rattle.surf_run.proofs.LoadEnds.{step_causes, step_shown}
 use Rattle.surf_run.proofs.loading.load_store.Goals as goal
 
@@ -25,3 +26,12 @@ returns-clause-shown g c tells output five = inr (
 
 pub returns-clause-causes : goal.returns-clause-causes
 returns-clause-causes g c = step_causes (IsTrue g.W.Disk.tells) c.in-Err.status (g.W.Disk.world c.args.out.now) (g.W.Disk.world c.make_steps.new.out) c.in-Err.ensures.cause
+
+-- ---- where it writes
+
+pub returns-in-Ok-clause-within : goal.returns-in-Ok-clause-within
+returns-in-Ok-clause-within g c =
+    pages_then c.args.store c.make_steps.new.store (g.W.Disk.world c.args.out.now) (g.W.Disk.world c.make_steps.new.out) (g.W.Disk.world c.end_load.new.out) c.make_steps.ensures.within c.end_load.ensures.within
+
+pub returns-clause-within : goal.returns-clause-within
+returns-clause-within g c = c.make_steps.ensures.within.within

@@ -11,14 +11,14 @@ pub returns-in-Ok : goal.returns-in-Ok
 returns-in-Ok g c =
     change_made (filter_kind g.F.RangeFilter.spelling g.F.RangeFilter.built_cutoff) g.W.Disk.tells g.W.Outside.tells_output (entry_of c.args.step.key c.args.step.value) (Ok c.in-Ok.field-0) c.args.store.now
     c.write_step-written.new.store (g.W.Disk.world c.args.out.now) (g.W.Disk.world c.write_step-written.new.out) c.in-Ok.ensures.stopped c.consistency_law.ensures.slot c.in-Ok.ensures.moves
-    (g.met.W.Outside.said_now c.args.out.now) (λ tells. g.met.W.Disk.current c.args.out.now tells) (λ s tells tied. c.in-Ok.ensures.answered s tells tied) true Done refl refl refl
+    (g.met.W.Outside.said_now c.args.out.now) (λ tells. g.met.W.Disk.current c.args.out.now tells) c.in-Ok.ensures.pages (λ s tells tied. c.in-Ok.ensures.answered s tells tied) true Done refl refl refl
 
 pub returns-then-is_passed_over : goal.returns-then-is_passed_over
 returns-then-is_passed_over g c =
     let passed = passed_reply c.in-Err.why (sym c.is_passed_over.ensures ∙ c.if-is_passed_over.true) in
     change_made (filter_kind g.F.RangeFilter.spelling g.F.RangeFilter.built_cutoff) g.W.Disk.tells g.W.Outside.tells_output (entry_of c.args.step.key c.args.step.value) {T = Unit {0}} (Err c.in-Err.why) c.args.store.now
     c.write_step-written.new.store (g.W.Disk.world c.args.out.now) (g.W.Disk.world c.write_step-written.new.out) c.in-Err.ensures.stopped c.consistency_law.ensures.slot c.in-Err.ensures.moves
-    (g.met.W.Outside.said_now c.args.out.now) (λ tells. g.met.W.Disk.current c.args.out.now tells) (λ s tells tied. c.in-Err.ensures.answered s tells tied) false passed.0 passed.1 passed.2 passed.3
+    (g.met.W.Outside.said_now c.args.out.now) (λ tells. g.met.W.Disk.current c.args.out.now tells) c.in-Err.ensures.pages (λ s tells tied. c.in-Err.ensures.answered s tells tied) false passed.0 passed.1 passed.2 passed.3
 
 pub returns-else-is_passed_over : goal.returns-else-is_passed_over
 returns-else-is_passed_over g c =
@@ -27,7 +27,7 @@ returns-else-is_passed_over g c =
     let other = other_refusal c.in-Err.why c.args.store.now.stopped (limit_of (change_of (entry_of c.args.step.key c.args.step.value))) a mid c.requires.running c.in-Err.ensures.refused (sym c.is_passed_over.ensures ∙ c.if-is_passed_over.false) in
     change_ended (filter_kind g.F.RangeFilter.spelling g.F.RangeFilter.built_cutoff) g.W.Disk.tells g.W.Outside.tells_output (entry_of c.args.step.key c.args.step.value) {T = Unit {0}} (Err c.in-Err.why) c.args.store.now
     c.write_step-written.new.store a mid c.in-Err.ensures.stopped c.consistency_law.ensures.slot c.in-Err.ensures.moves
-    (g.met.W.Outside.said_now c.args.out.now) (λ tells. g.met.W.Disk.current c.args.out.now tells) (λ s tells tied. c.in-Err.ensures.answered s tells tied) c.in-Err.why refl other (g.W.Disk.world c.say_why.new.out)
+    (g.met.W.Outside.said_now c.args.out.now) (λ tells. g.met.W.Disk.current c.args.out.now tells) c.in-Err.ensures.pages (λ s tells tied. c.in-Err.ensures.answered s tells tied) c.in-Err.why refl other (g.W.Disk.world c.say_why.new.out)
     c.say_why.result (g.met.W.Outside.said_now c.write_step-written.new.out) c.say_why.ensures.moves c.say_why.ensures.ends c.say_why.ensures.said c.say_why.ensures.prefix
 
 pub say_why-requires : goal.say_why-requires

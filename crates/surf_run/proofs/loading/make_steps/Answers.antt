@@ -5,6 +5,7 @@ use Rattle.load_gen.proofs.Steps.{number_more}
 use Rattle.load_gen.specs.Generator.{next_number, step_of}
 use Rattle.surf_run.specs.Kind.{filter_kind}
 use Rattle.surf_run.proofs.EndCauses.{lines_none, lines_on}
+use Rattle.surf_run.proofs.Footprint.{pages_none, pages_on}
 use Rattle.surf_run.proofs.LoadEnds.{load_cut, one_more, step_cause_since}
 use Rattle.surf_run.proofs.loading.make_steps.Goals as goal
 use Rattle.surf_run.proofs.loading.make_steps.Goals.{then-not-branch, else-not-branch}
@@ -17,6 +18,7 @@ loop-init g c = record {
   few = omega arith;
   silent = refl;
   moves = lines_none (g.W.Disk.world c.args.out.now);
+  within = pages_none c.args.store.now (g.W.Disk.world c.args.out.now);
 }
 
 pub make_step-requires : goal.make_step-requires
@@ -43,6 +45,9 @@ returns-in_err-make_step-clause-cause g c =
 pub returns-in_err-make_step-clause-moves : goal.returns-in_err-make_step-clause-moves
 returns-in_err-make_step-clause-moves g c = lines_on (g.W.Disk.world c.args.out.now) (g.W.Disk.world c.loop.out) (g.W.Disk.world c.make_step.new.out) c.loop.invariant.moves c.make_step.ensures.moves
 
+pub returns-in_err-make_step-clause-within : goal.returns-in_err-make_step-clause-within
+returns-in_err-make_step-clause-within g c = pages_on c.args.store.now c.loop.store c.make_step.new.store _ _ _ c.loop.invariant.within c.make_step.ensures.within
+
 -- a step more
 
 pub overflow_add-refused : goal.overflow_add-refused
@@ -66,4 +71,5 @@ loop-preserved g c =
       few = elim counted [ inl over ↦ omega (arith, over.1, c.loop.invariant.few) | inr all ↦ omega (arith, all.1, c.loop.invariant.few) ];
       silent = c.in_ok-make_step.ensures.silent ∙ c.loop.invariant.silent;
       moves = lines_on (g.W.Disk.world c.args.out.now) (g.W.Disk.world c.loop.out) (g.W.Disk.world c.make_step.new.out) c.loop.invariant.moves c.make_step.ensures.moves;
+      within = pages_on c.args.store.now c.loop.store c.make_step.new.store _ _ _ c.loop.invariant.within c.make_step.ensures.within;
     }

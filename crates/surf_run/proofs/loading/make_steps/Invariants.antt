@@ -2,7 +2,7 @@ use Rattle.std.proofs.Common.{◌≡◌, ◌≤◌, false}
 use Rattle.std.specs.Prelude.{IsTrue}
 use Rattle.load_gen.specs.Generator.{number_after}
 use Rattle.state_model.specs.State.{State}
-use Rattle.surf_run.specs.Causes.{LineMoves}
+use Rattle.surf_run.specs.Causes.{LineMoves, WithinPages}
 use Rattle.surf_run.specs.Kind.{filter_kind}
 use Rattle.surf_run.specs.Loading.{LoadInvariant}
 use Rattle.surf_run.proofs.loading.make_steps.Given as goal
@@ -19,4 +19,5 @@ invariant-loop g l = record {
   few : l.refused ≤ l.counter;
   silent : (g.W.Disk.world l.out).beside ≡ (g.W.Disk.world l.fn.out).beside;
   moves : LineMoves (g.W.Disk.world l.fn.out) (g.W.Disk.world l.out);
+  within : WithinPages l.fn.store l.store (g.W.Disk.world l.fn.out) (g.W.Disk.world l.out);
 }

@@ -1,8 +1,10 @@
-use Rattle.std.proofs.Common.{inl, inr}
+use Rattle.std.proofs.Common.{◌*◌, inl, inr}
+use Rattle.block_model.specs.Pages.{page_bytes}
 use Rattle.surf_run.specs.Kind.{filter_kind}
 use Rattle.surf_run.proofs.EndCauses.{causes_on, lines_on}
 use Rattle.surf_run.proofs.LoadEnds.{damage_since, ends_completed, ends_never_five, load_ends_by, loaded_now, loaded_open, loading_never_eight, unserved_ends_by}
 use Rattle.surf_run.proofs.Moments.{tied_stands}
+use Rattle.surf_run.proofs.Openings.{opened_within}
 use Rattle.surf_run.proofs.loading.open_and_load.Goals as goal
 
 -- ---- an opened store
@@ -107,3 +109,12 @@ returns-in-Err-clause-statuses g c = elim c.in-Err.ensures.statuses [
     ]
   ]
 ]
+
+-- ---- where it writes
+
+pub returns-in-Ok-clause-within : goal.returns-in-Ok-clause-within
+returns-in-Ok-clause-within g c v tells is =
+    opened_within v c.in-Ok.store.manifest.version (g.W.Disk.world c.args.out.now) (g.W.Disk.world c.open_or_say.new.out) (g.W.Disk.world c.load_store.new.out) is (c.in-Ok.ensures.version tells) c.in-Ok.ensures.still c.load_store.ensures.within
+
+pub returns-in-Err-clause-within : goal.returns-in-Err-clause-within
+returns-in-Err-clause-within g c v tells is = c.in-Err.ensures.unwritten (page_bytes * v.pages)

@@ -1,4 +1,5 @@
-use Rattle.std.proofs.Common.{◌+◌, ◌∙◌, inl, inr, refl, sym, ap, arith}
+use Rattle.std.proofs.Common.{◌+◌, ◌*◌, ◌∙◌, inl, inr, refl, sym, ap, arith}
+use Rattle.block_model.specs.Pages.{page_bytes}
 use Rattle.disk_trait.specs.World.{Streams}
 use Rattle.image_model.specs.Stands.{IsStateOf}
 use Rattle.surf_run.specs.ServedOrNot.{opening_bound}
@@ -7,7 +8,7 @@ use Rattle.surf_run.specs.Open.{IsFreeText}
 use Rattle.surf_run.proofs.EndCauses.{causes_on, no_fall_on}
 use Rattle.surf_run.proofs.LastLines.{completed, free_status, never_eight, never_five, read_since, unserved_since}
 use Rattle.surf_run.proofs.Moments.{tied_stands}
-use Rattle.surf_run.proofs.Openings.{served_now, served_open}
+use Rattle.surf_run.proofs.Openings.{opened_within, served_now, served_open}
 use Rattle.surf_run.proofs.opened.open_and_serve.Goals as goal
 
 -- ---- an opened store
@@ -137,3 +138,12 @@ returns-in-Err-clause-statuses g c = elim c.in-Err.ensures.statuses [
     ]
   ]
 ]
+
+-- ---- where it writes
+
+pub returns-in-Ok-clause-within : goal.returns-in-Ok-clause-within
+returns-in-Ok-clause-within g c v tells is =
+    opened_within v c.in-Ok.store.manifest.version (g.W.Disk.world c.args.out.now) (g.W.Disk.world c.open_or_say.new.out) (g.W.Disk.world c.serve_store.new.out) is (c.in-Ok.ensures.version tells) c.in-Ok.ensures.still c.serve_store.ensures.within
+
+pub returns-in-Err-clause-within : goal.returns-in-Err-clause-within
+returns-in-Err-clause-within g c v tells is = c.in-Err.ensures.unwritten (page_bytes * v.pages)

@@ -3,6 +3,7 @@ use Rattle.line_model.specs.Replies.{Memory, text_of}
 use Rattle.surf_run.specs.Kind.{filter_kind}
 use Rattle.surf_run.specs.Open.{IsFreeText}
 use Rattle.surf_run.specs.Serving.{ServeInvariant}
+use Rattle.surf_run.proofs.Footprint.{within_say}
 use Rattle.surf_run.proofs.LastLines.{never_seven, said_reads, unserved}
 use Rattle.surf_run.proofs.opened.serve_store.Goals as goal
 
@@ -26,3 +27,8 @@ returns-in-Err-clause-early g c seven = c.last_line.ensures.moves.to_take
 
 pub returns-in-Err-clause-shown : goal.returns-in-Err-clause-shown
 returns-in-Err-clause-shown g c tells output five = absurd (elim c.last_line.ensures.ends [ inl seven ↦ let e : 7 ≡ 5 = sym seven ∙ five in cc | inr six ↦ let e : 6 ≡ 5 = sym six.0 ∙ five in cc ])
+
+-- ---- where it writes
+
+pub returns-in-Err-clause-within : goal.returns-in-Err-clause-within
+returns-in-Err-clause-within g c = within_say _ (g.W.Disk.world c.args.out.now) (g.W.Disk.world c.last_line.new.out) c.last_line.ensures.moves

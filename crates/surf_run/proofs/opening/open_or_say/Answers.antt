@@ -5,6 +5,7 @@ use Rattle.key_base.specs.Limits.{max_tables}
 use Rattle.surf_run.specs.ServedOrNot.{opening_bound}
 use Rattle.surf_run.specs.Open.{IsFreeText, IsOpeningText, opening_status, opening_text}
 use Rattle.surf_run.proofs.EndCauses.{no_fall_on, no_fall_say}
+use Rattle.surf_run.proofs.Footprint.{within_on, within_say, within_still}
 use Rattle.surf_run.proofs.LastLines.{read_since, said_reads, unserved, unserved_since}
 use Rattle.surf_run.proofs.Openings.{damage_told, free_text, is_store, no_store_of, not_six, open_moves, opening_is_text, opening_of, opening_statuses, refused_causes, told_damage, told_no_store}
 use Rattle.table_file.specs.Faults.{filter_fault_of}
@@ -140,3 +141,10 @@ returns-in-Err-clause-moves g c =
     let new = g.W.Disk.world c.say_why.new.out in
     let opened = open_moves (7 + 2 * max_tables) old mid c.open_store.ensures.moves in
     record { input = c.say_why.ensures.moves.to_take ∙ ap (λ (t : Streams). t.to_take) opened.beside; counts = no_fall_on old mid new opened.counts (no_fall_say mid new c.say_why.ensures.moves) }
+
+pub returns-in-Err-clause-unwritten : goal.returns-in-Err-clause-unwritten
+returns-in-Err-clause-unwritten g c n =
+    let old = g.W.Disk.world c.args.out.now in
+    let mid = g.W.Disk.world c.open_store.new.disk in
+    let opened = open_moves (7 + 2 * max_tables) old mid c.open_store.ensures.moves in
+    within_on n old mid (g.W.Disk.world c.say_why.new.out) (within_still n old mid opened.held opened.time) (within_say n mid (g.W.Disk.world c.say_why.new.out) c.say_why.ensures.moves)

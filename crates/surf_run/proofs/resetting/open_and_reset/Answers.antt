@@ -1,10 +1,12 @@
-use Rattle.std.proofs.Common.{◌++◌, ◌∙◌, ap, inl, inr}
+use Rattle.std.proofs.Common.{◌*◌, ◌++◌, ◌∙◌, ap, inl, inr}
+use Rattle.block_model.specs.Pages.{page_bytes}
 use Rattle.disk_trait.specs.World.{Streams}
 use Rattle.surf_run.specs.Formats.{bad_settings_text}
 use Rattle.surf_run.specs.Kind.{filter_kind}
 use Rattle.surf_run.proofs.EndCauses.{causes_on, lines_on}
 use Rattle.surf_run.proofs.Moments.{image_stands, tied_stands}
 use Rattle.surf_run.proofs.NewNumbersSet.{all_statuses, completed, never_five, no_store_told, opened_now, opening_never_ten, unopened_ends}
+use Rattle.surf_run.proofs.Openings.{opened_within}
 use Rattle.surf_run.proofs.resetting.open_and_reset.Goals as goal
 
 -- ---- an opened store
@@ -102,3 +104,12 @@ returns-in-Err-clause-statuses g c = elim c.in-Err.ensures.statuses [
     ]
   ]
 ]
+
+-- ---- where it writes
+
+pub returns-in-Ok-clause-within : goal.returns-in-Ok-clause-within
+returns-in-Ok-clause-within g c v tells is =
+    opened_within v c.in-Ok.store.manifest.version (g.W.Disk.world c.args.out.now) (g.W.Disk.world c.open_or_say.new.out) (g.W.Disk.world c.reset_store.new.out) is (c.in-Ok.ensures.version tells) c.in-Ok.ensures.still c.reset_store.ensures.within
+
+pub returns-in-Err-clause-within : goal.returns-in-Err-clause-within
+returns-in-Err-clause-within g c v tells is = c.in-Err.ensures.unwritten (page_bytes * v.pages)

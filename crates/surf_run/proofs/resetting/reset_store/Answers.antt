@@ -4,6 +4,7 @@ use Rattle.block_model.specs.Pages.{page_bytes}
 use Rattle.surf_run.specs.Kind.{filter_kind}
 use Rattle.surf_run.specs.Resetting.{bad_number}
 use Rattle.surf_run.proofs.EndCauses.{line_say, line_write, lines_on}
+use Rattle.surf_run.proofs.Footprint.{within_on, within_say, within_write}
 use Rattle.surf_run.proofs.LoadEnds.{line_causes}
 use Rattle.surf_run.proofs.NewNumbersSet.{done, of_reset, refused, refused_at_eight, refused_at_ten, refused_causes, refused_statuses}
 use Rattle.surf_run.proofs.resetting.reset_store.Goals as goal
@@ -89,3 +90,21 @@ returns-clause-moves g c =
     let m = g.W.Disk.world c.set_numbers-set.new.out in
     let b = g.W.Disk.world c.say_refused.new.out in
     lines_on a m b (line_write 0 (page_bytes * c.args.store.manifest.version.pages) a m c.set_numbers-set.ensures.moves) (line_say m b c.say_refused.ensures.moves)
+
+-- ---- where it writes
+
+pub returns-in-Ok-clause-within : goal.returns-in-Ok-clause-within
+returns-in-Ok-clause-within g c =
+    let n = page_bytes * c.args.store.manifest.version.pages in
+    let a = g.W.Disk.world c.args.out.now in
+    let m = g.W.Disk.world c.set_numbers-set.new.out in
+    let b = g.W.Disk.world c.say_done.new.out in
+    within_on n a m b (within_write n a m c.set_numbers-set.ensures.moves) (within_say n m b c.say_done.ensures.moves)
+
+pub returns-clause-within : goal.returns-clause-within
+returns-clause-within g c =
+    let n = page_bytes * c.args.store.manifest.version.pages in
+    let a = g.W.Disk.world c.args.out.now in
+    let m = g.W.Disk.world c.set_numbers-set.new.out in
+    let b = g.W.Disk.world c.say_refused.new.out in
+    within_on n a m b (within_write n a m c.set_numbers-set.ensures.moves) (within_say n m b c.say_refused.ensures.moves)

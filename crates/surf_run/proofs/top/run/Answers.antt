@@ -58,6 +58,7 @@ returns g c =
         | inl told ↦ inl told
         | inr none ↦ inr (none.0, elim none.1 [ inl shown ↦ inl shown | inr unsaid ↦ inr (is_load words asked asks unsaid.0, unsaid.1) ])
       ];
+      within = λ v tells is asked_for. if_opens words asked _ asked_for asks (by.within v tells is);
       told_of_damage = λ d tells damaged is. if_opens words asked _ is asks (by.told_of_damage d tells damaged);
       only_at_no_store = λ tells eight is. if_opens_without_growing words asked _ is asks (by.only_at_no_store tells eight);
       only_at_bad_pages = λ pages tells eight is. if_reset words asked (new.Pages pages) _ _ is asks (by.at_eight tells eight) (λ never. absurd never);

@@ -15,6 +15,7 @@ use Rattle.surf_run.specs.Run.{FormatEnds, IsBadSettingsText, IsHelpText, IsUsag
 use Rattle.surf_run.specs.Unserved.{Unserved}
 use Rattle.surf_run.specs.declared.new_numbers.NewNumbers.{NewNumbers}
 use Rattle.surf_run.proofs.Asking.{at_bad, at_format, at_help, at_load, at_refused, at_serve, grow_opens, grow_opens_so, grow_is_reset, grow_reset, load_is_asked, load_opens, load_opens_so, memory_bad, memory_help, memory_load, memory_opens, memory_refused, memory_reset, memory_serve, serve_opens, settings_in_its_range, settings_is_reset, settings_opens, settings_opens_so, settings_reset}
+use Rattle.surf_run.proofs.Footprint.{within_say}
 use Rattle.surf_run.proofs.LastLines.{read_since, said_reads, unserved}
 use Rattle.surf_run.proofs.LoadEnds.{as_statuses, never_two}
 use Rattle.surf_run.proofs.NewNumbersSet.{loading_never_ten, never_two as reset_never_two, reset_as_statuses, serving_never_ten}
@@ -352,3 +353,21 @@ returns-in-Memory-clause-reset_at_damage g c tells output five = absurd (elim c.
 
 pub returns-in-Memory-clause-at_eight : goal.returns-in-Memory-clause-at_eight
 returns-in-Memory-clause-at_eight g c tells eight = absurd (elim c.last_line.ensures.ends [ inl seven ↦ let f : 7 ≡ 8 = sym seven ∙ eight in cc | inr six ↦ let f : 6 ≡ 8 = sym six.0 ∙ eight in cc ])
+
+-- ---- where it writes
+
+pub returns-in-Serve-clause-within : goal.returns-in-Serve-clause-within
+returns-in-Serve-clause-within g c v tells is = serve_opens c.args.asked _ c.in-Serve.is (c.open_and_serve.ensures.within v tells is)
+
+pub returns-in-Load-clause-within : goal.returns-in-Load-clause-within
+returns-in-Load-clause-within g c v tells is = load_opens c.args.asked c.in-Load.load _ c.in-Load.is (c.open_and_load.ensures.within v tells is)
+
+pub returns-in-Settings-clause-within : goal.returns-in-Settings-clause-within
+returns-in-Settings-clause-within g c v tells is = settings_opens c.args.asked c.in-Settings.settings _ c.in-Settings.is (c.open_and_reset.ensures.within v tells is)
+
+pub returns-in-Grow-clause-within : goal.returns-in-Grow-clause-within
+returns-in-Grow-clause-within g c v tells is = grow_opens c.args.asked c.in-Grow.pages _ c.in-Grow.is (c.open_and_reset-in-Grow.ensures.within v tells is)
+
+pub returns-in-Memory-clause-within : goal.returns-in-Memory-clause-within
+returns-in-Memory-clause-within g c v tells is =
+    memory_opens c.args.asked _ c.in-Memory.is (within_say _ (g.W.Disk.world c.args.out.now) (g.W.Disk.world c.last_line.new.out) c.last_line.ensures.moves)
