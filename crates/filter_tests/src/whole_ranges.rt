@@ -5,6 +5,7 @@ use super::images::{SPARSE, changed};
 use super::whole_images::{ZEBRA, read_whole};
 use filter_iter::{FilterCursor, range, seek, tally};
 use filter_trie::Trie;
+use key_base::MAX_KEY_BYTES;
 use std::alloc::Global;
 use std::process::Abort;
 use std::test::Fail;
@@ -17,7 +18,7 @@ fn check_at(
     slot: u64,
     key: &[u8],
 ) {
-    let mut written = [0; 16];
+    let mut written = [0; MAX_KEY_BYTES];
     let count = cursor.stub(&mut written);
     assert!(rt; cursor.leaf() == leaf);
     assert!(rt; cursor.slot() == slot);
