@@ -157,10 +157,10 @@ fn print_sizes(
 }
 
 // Asks for keys, and for walks of the same, in rounds, and prints the nanoseconds a key and which part may be held.
-fn point_rounds(
+fn point_rounds<'x>(
     rt: &(impl Print + CpuClock),
-    name: &str,
-    which: &str,
+    name: &'x str,
+    which: &'x str,
     filter: &SurfFilter<Global>,
     queries: &Texts,
 ) -> Result<()> {
