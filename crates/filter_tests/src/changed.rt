@@ -31,7 +31,7 @@ fn dense_levels(seed: u64) -> u16 {
 
 // What is read of bytes, or why they are refused, is as the judge says.
 fn check_bytes(rt: &impl Abort, alloc: Global, bytes: &[u8]) -> Result<(), AllocError> {
-    let found = fault_of(rt, alloc, bytes)?;
+    let found = fault_of(rt, alloc, Kind::Filters, bytes)?;
     let wanted = judge(alloc, bytes, Kind::Filters)?;
     assert!(rt; found == wanted);
     Ok(())

@@ -1,11 +1,12 @@
 //! Images of tries that were built: what they look like, and that they are read again.
 
 use super::images::{SPARSE, dense_image};
+use super::judge::Kind;
 use super::keys::{drawn_list, list_of_words, step};
 use super::levels::{byte_keys, pair_keys};
 use super::tries::{base_trie, boxed, drawn_trie, some_trie, trie_with};
 use filter_api::{DecodeError, FilterFault};
-use filter_codec::{decode, encode};
+use filter_codec::{decode, decode_whole, encode};
 use filter_trie::Trie;
 use key_base::KeyList;
 use std::alloc::{AllocError, Global};
@@ -46,13 +47,27 @@ pub(crate) fn read(alloc: Global, image: &[u8]) -> Result<Box<Trie<Global>>, Dec
     Ok(boxed(alloc, trie)?)
 }
 
-/// Why bytes are refused, or `None` where a trie is read of them, which has this image.
+/// The trie of whole keys that an image spells.
+pub(crate) fn read_whole(alloc: Global, image: &[u8]) -> Result<Box<Trie<Global>>, DecodeError> {
+    let trie = decode_whole(alloc, image)?;
+    Ok(boxed(alloc, trie)?)
+}
+
+fn read_as(kind: Kind, alloc: Global, image: &[u8]) -> Result<Box<Trie<Global>>, DecodeError> {
+    match kind {
+        Kind::Filters => read(alloc, image),
+        Kind::WholeKeys => read_whole(alloc, image),
+    }
+}
+
+/// Why bytes are refused as an image of a kind, or `None` where a trie is read of them, which has this image.
 pub(crate) fn fault_of(
     rt: &impl Abort,
     alloc: Global,
+    kind: Kind,
     bytes: &[u8],
 ) -> Result<Option<FilterFault>, AllocError> {
-    match read(alloc, bytes) {
+    match read_as(kind, alloc, bytes) {
         Ok(trie) => {
             check_image(rt, alloc, &trie, bytes)?;
             Ok(None)

@@ -1,6 +1,7 @@
 //! Images of a and ab, whole and with bytes changed: what is read of them, or the first rule that they break.
 
 use super::codec::{check_image, fault_of, read};
+use super::judge::Kind;
 use filter_api::FilterFault;
 use filter_trie::{Trie, Walk};
 use std::alloc::{AllocError, Global};
@@ -100,58 +101,75 @@ pub(crate) fn dense_image(alloc: Global) -> Result<Vec<u8>, AllocError> {
     changed(alloc, zeros.as_slice(), &DENSE_BYTES)
 }
 
-fn check_fault(
+/// Bytes break this rule at this place as an image of a kind.
+pub(crate) fn check_fault(
     rt: &impl Abort,
     alloc: Global,
+    kind: Kind,
     bytes: &[u8],
     place: u64,
     rule: u8,
 ) -> Result<(), AllocError> {
-    let found = fault_of(rt, alloc, bytes)?;
+    let found = fault_of(rt, alloc, kind, bytes)?;
     assert!(rt; found == Some(FilterFault { place, rule }));
     Ok(())
 }
 
-fn check_rows(
+/// The same of an image with bytes changed, row by row.
+pub(crate) fn check_rows(
     rt: &impl Abort,
     alloc: Global,
+    kind: Kind,
     image: &[u8],
     rows: &[Row],
 ) -> Result<(), AllocError> {
     for (changes, place, rule) in rows {
         let bytes = changed(alloc, image, *changes)?;
-        check_fault(rt, alloc, bytes.as_slice(), *place, *rule)?;
+        check_fault(rt, alloc, kind, bytes.as_slice(), *place, *rule)?;
     }
     Ok(())
 }
 
 #[test]
 fn bytes_changed_break_a_rule(rt: HostRuntime) -> Result<(), Fail> {
-    check_rows(&rt, rt.alloc(), &SPARSE, &SPARSE_ROWS)?;
+    check_rows(&rt, rt.alloc(), Kind::Filters, &SPARSE, &SPARSE_ROWS)?;
     Ok(())
 }
 
 #[test]
 fn bytes_of_dense_levels_do(rt: HostRuntime) -> Result<(), Fail> {
     let dense = dense_image(rt.alloc())?;
-    check_rows(&rt, rt.alloc(), dense.as_slice(), &DENSE_ROWS)?;
+    check_rows(
+        &rt,
+        rt.alloc(),
+        Kind::Filters,
+        dense.as_slice(),
+        &DENSE_ROWS,
+    )?;
     Ok(())
 }
 
 #[test]
 fn bytes_of_suffixes_do(rt: HostRuntime) -> Result<(), Fail> {
-    check_rows(&rt, rt.alloc(), &WITH_REAL, &REAL_ROWS)?;
+    check_rows(&rt, rt.alloc(), Kind::Filters, &WITH_REAL, &REAL_ROWS)?;
     Ok(())
 }
 
 #[test]
 fn fewer_bytes_and_one_more_are_refused(rt: HostRuntime) -> Result<(), Fail> {
     for len in 0..45 {
-        check_fault(&rt, rt.alloc(), &SPARSE[..len], len as u64, 1)?;
+        check_fault(
+            &rt,
+            rt.alloc(),
+            Kind::Filters,
+            &SPARSE[..len],
+            len as u64,
+            1,
+        )?;
     }
     let mut longer = [0; 46];
     longer[..45].copy_from_slice(&SPARSE);
-    check_fault(&rt, rt.alloc(), &longer, 45, 5)?;
+    check_fault(&rt, rt.alloc(), Kind::Filters, &longer, 45, 5)?;
     Ok(())
 }
 
@@ -219,7 +237,7 @@ fn check_counts(rt: &impl Abort, alloc: Global, dense: u64, labels: u64) -> Resu
     let mut bytes = SPARSE;
     bytes[16..24].copy_from_slice(&dense.to_le_bytes());
     bytes[32..40].copy_from_slice(&labels.to_le_bytes());
-    check_fault(rt, alloc, &bytes, 45, 1)
+    check_fault(rt, alloc, Kind::Filters, &bytes, 45, 1)
 }
 
 #[test]
@@ -229,6 +247,6 @@ fn great_counts_do_not_wrap(rt: HostRuntime) -> Result<(), Fail> {
     }
     let mut bytes = SPARSE;
     bytes[24..32].copy_from_slice(&u64::MAX.to_le_bytes());
-    check_fault(&rt, rt.alloc(), &bytes, 8, 8)?;
+    check_fault(&rt, rt.alloc(), Kind::Filters, &bytes, 8, 8)?;
     Ok(())
 }

@@ -1,14 +1,13 @@
 //! Images of whole keys: what is read of them, what a filter's reader says of them, and bytes changed against a slow judge.
 
-use super::codec::{check_image, fault_of};
+use super::codec::{check_image, fault_of, read_whole};
 use super::images::{
-    DENSE_ROWS, REAL_ROWS, Row, SPARSE, SPARSE_ROWS, WITH_REAL, changed, dense_image, set_byte,
+    DENSE_ROWS, REAL_ROWS, Row, SPARSE, SPARSE_ROWS, WITH_REAL, changed, check_fault, check_rows,
+    dense_image, set_byte,
 };
 use super::judge::{Kind, judge};
 use super::keys::step;
-use super::tries::boxed;
-use filter_api::{DecodeError, FilterFault};
-use filter_codec::decode_whole;
+use filter_api::FilterFault;
 use filter_trie::{Trie, Walk};
 use std::alloc::{AllocError, Global};
 use std::process::Abort;
@@ -26,69 +25,28 @@ pub(crate) const ZEBRA: [u8; 47] = [
 // Of the sparse image: one bit of a width.
 const WIDTH_ROWS: [Row; 2] = [(&[(5, 1)], 5, 3), (&[(6, 1)], 6, 3)];
 
-/// The trie of whole keys that an image spells.
-pub(crate) fn read_whole(alloc: Global, image: &[u8]) -> Result<Box<Trie<Global>>, DecodeError> {
-    let trie = decode_whole(alloc, image)?;
-    Ok(boxed(alloc, trie)?)
-}
-
-// Why bytes are refused as whole keys, or `None` where a trie is read of them, which has this image.
-fn whole_fault_of(
-    rt: &impl Abort,
-    alloc: Global,
-    bytes: &[u8],
-) -> Result<Option<FilterFault>, AllocError> {
-    match read_whole(alloc, bytes) {
-        Ok(trie) => {
-            check_image(rt, alloc, &trie, bytes)?;
-            Ok(None)
-        }
-        Err(DecodeError::Memory) => Err(AllocError),
-        Err(DecodeError::Fault(fault)) => Ok(Some(fault)),
-    }
-}
-
-fn check_fault(
-    rt: &impl Abort,
-    alloc: Global,
-    bytes: &[u8],
-    place: u64,
-    rule: u8,
-) -> Result<(), AllocError> {
-    let found = whole_fault_of(rt, alloc, bytes)?;
-    assert!(rt; found == Some(FilterFault { place, rule }));
-    Ok(())
-}
-
-fn check_rows(
-    rt: &impl Abort,
-    alloc: Global,
-    image: &[u8],
-    rows: &[Row],
-) -> Result<(), AllocError> {
-    for (changes, place, rule) in rows {
-        let bytes = changed(alloc, image, *changes)?;
-        check_fault(rt, alloc, bytes.as_slice(), *place, *rule)?;
-    }
-    Ok(())
-}
-
 #[test]
 fn bytes_changed_break_a_rule_of_whole_keys(rt: HostRuntime) -> Result<(), Fail> {
-    check_rows(&rt, rt.alloc(), &SPARSE, &SPARSE_ROWS)?;
-    check_rows(&rt, rt.alloc(), &SPARSE, &WIDTH_ROWS)?;
+    check_rows(&rt, rt.alloc(), Kind::WholeKeys, &SPARSE, &SPARSE_ROWS)?;
+    check_rows(&rt, rt.alloc(), Kind::WholeKeys, &SPARSE, &WIDTH_ROWS)?;
     let dense = dense_image(rt.alloc())?;
-    check_rows(&rt, rt.alloc(), dense.as_slice(), &DENSE_ROWS)?;
+    check_rows(
+        &rt,
+        rt.alloc(),
+        Kind::WholeKeys,
+        dense.as_slice(),
+        &DENSE_ROWS,
+    )?;
     Ok(())
 }
 
 // Whatever a filter's reader says of them.
 #[test]
 fn images_with_real_bits_are_none_of_whole_keys(rt: HostRuntime) -> Result<(), Fail> {
-    check_fault(&rt, rt.alloc(), &WITH_REAL, 6, 3)?;
+    check_fault(&rt, rt.alloc(), Kind::WholeKeys, &WITH_REAL, 6, 3)?;
     for (changes, _, _) in &REAL_ROWS {
         let bytes = changed(rt.alloc(), &WITH_REAL, *changes)?;
-        check_fault(&rt, rt.alloc(), bytes.as_slice(), 6, 3)?;
+        check_fault(&rt, rt.alloc(), Kind::WholeKeys, bytes.as_slice(), 6, 3)?;
     }
     Ok(())
 }
@@ -123,7 +81,7 @@ fn check_both(
     keys: &[&[u8]],
     other: &[u8],
 ) -> Result<(), Fail> {
-    let refused = fault_of(rt, alloc, image)?;
+    let refused = fault_of(rt, alloc, Kind::Filters, image)?;
     assert!(rt; refused.is_none());
     check_read(rt, alloc, image, keys, other)
 }
@@ -137,7 +95,7 @@ fn check_whole(
     keys: &[&[u8]],
     other: &[u8],
 ) -> Result<(), Fail> {
-    let refused = fault_of(rt, alloc, image)?;
+    let refused = fault_of(rt, alloc, Kind::Filters, image)?;
     assert!(rt; refused == Some(FilterFault { place, rule: 9 }));
     check_read(rt, alloc, image, keys, other)
 }
@@ -297,16 +255,16 @@ fn the_longest_keys_are_read(rt: HostRuntime) -> Result<(), Fail> {
 #[test]
 fn a_longer_key_is_none(rt: HostRuntime) -> Result<(), Fail> {
     let longer = long_image(rt.alloc(), 1_025, false)?;
-    check_fault(&rt, rt.alloc(), longer.as_slice(), 10, 4)?;
+    check_fault(&rt, rt.alloc(), Kind::WholeKeys, longer.as_slice(), 10, 4)?;
     Ok(())
 }
 
 // ---- bytes changed, by both kinds
 
 fn check_bytes(rt: &impl Abort, alloc: Global, bytes: &[u8]) -> Result<(), AllocError> {
-    let whole = whole_fault_of(rt, alloc, bytes)?;
+    let whole = fault_of(rt, alloc, Kind::WholeKeys, bytes)?;
     assert!(rt; whole == judge(alloc, bytes, Kind::WholeKeys)?);
-    let filters = fault_of(rt, alloc, bytes)?;
+    let filters = fault_of(rt, alloc, Kind::Filters, bytes)?;
     assert!(rt; filters == judge(alloc, bytes, Kind::Filters)?);
     Ok(())
 }

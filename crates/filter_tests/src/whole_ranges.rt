@@ -1,8 +1,9 @@
 //! Ranges and cursors over tries of whole keys, in which a leaf may be alone.
 
+use super::codec::read_whole;
 use super::cursors::{check_next, check_prev, is_least, start_at};
 use super::images::{SPARSE, changed};
-use super::whole_images::{ZEBRA, read_whole};
+use super::whole_images::ZEBRA;
 use filter_iter::{FilterCursor, range, seek, tally};
 use filter_trie::Trie;
 use key_base::MAX_KEY_BYTES;
