@@ -1,5 +1,5 @@
 -- Entries of either format that break no rule can be walked, the first of them with no key before it.
-use Rattle.std.proofs.Common.{◌≡◌, ◌≤◌, ◌+◌, ◌-◌, ◌*◌, ℕ, zero, suc, false, List, [], length, take, drop, sym, ap, ap₂, ◌∙◌, subst, arith}
+use Rattle.std.proofs.Common.{◌≡◌, ◌≤◌, ◌+◌, ◌-◌, ◌*◌, ℕ, zero, suc, false, List, [], ◌∷◌, length, take, drop, sym, ap, ap₂, ◌∙◌, subst, arith}
 use Rattle.std.specs.Prelude.{Option, Some, None, not, nat_lt, ◌||◌}
 use Rattle.std.specs.List.{AllByRecursion}
 use Rattle.std.proofs.lemmas.Bool.{eqb-true, ltb-false, or_parts}
@@ -9,21 +9,20 @@ use Rattle.byte_fields.specs.Spelling.{IsBytes}
 use Rattle.key_base.specs.ByteOrder.{is_before}
 use Rattle.key_base.specs.Limits.{is_no_key_length}
 use Rattle.map_model.specs.SortedMap.{Bytes}
-use Rattle.entry_model.specs.Entries.{Entry}
+use Rattle.entry_model.specs.Entries.{Entry, IsEntry}
 use Rattle.entry_model.specs.Newest.{entries_from}
-use Rattle.block_model.specs.BlockReading.{count_in, used_in}
-use Rattle.block_model.specs.FormatFaults.{any_block_fault, any_block_in, block_fault_by, block_in_by, entries_fault_by, entries_part_by, entries_place, entry_fault_by, has_wrong_kind, shares_otherwise}
+use Rattle.block_model.specs.Block.{IsEntryOf}
+use Rattle.block_model.specs.BlockReading.{block_fault, block_fault_by, block_in, block_in_by, count_in, entries_fault_by, entries_part_by, entries_place, entry_fault_by, has_wrong_kind, shares_otherwise, used_in}
 use Rattle.block_model.specs.Formats.{Format, Old, Prefixed, entries_by, entry_head_by, format_in, key_by, listed_in, most_value, rest_length_in, shared_in, value_length_by, wants_shared, width_by}
-use Rattle.block_model.specs.Prefixed.{IsEntryBy}
-use Rattle.block_model.proofs.EntriesWritten.{key_length_sound}
+use Rattle.block_model.proofs.OldEntriesWritten.{key_length_sound}
 use Rattle.block_model.proofs.ListedEntries.{listed_are_later, listed_break_none}
-use Rattle.block_model.proofs.OldBlocks.{either_written}
-use Rattle.block_model.proofs.PrefixedBodies.{wants_few}
+use Rattle.block_model.proofs.EitherFormat.{either_written}
+use Rattle.block_model.proofs.EntryBodies.{wants_few}
 use Rattle.block_model.proofs.Refusals.{kept, neither, not_false}
 use Rattle.block_format.specs.Finding.{IsGroupOf, IsHeadOf}
-use Rattle.block_format.specs.Spans.{kept_from}
+use Rattle.block_format.specs.Walking.{kept_from}
 use Rattle.block_format.specs.Walking.{BeginsFor, IsHere, StandBy, StandsAfter, part_walked, walked}
-use Rattle.block_format.specs.declared.any_header.BlockHead.{BlockHead}
+use Rattle.block_format.specs.declared.header.BlockHead.{BlockHead}
 use Rattle.block_format.specs.declared.format.BlockFormat.TheVariants as code
 use Rattle.block_format.specs.declared.walk.EntryWalk.{EntryWalk}
 use Rattle.block_format.proofs.Groups.{from_group, group_part, place_fits}
@@ -68,10 +67,18 @@ stand_by f bytes i (suc n) place before rest none =
     let w = width_by f rest in
     (one_here f i place before rest both.0, stand_by f bytes (suc i) n (place + w) (key_by f before rest) (drop w rest) both.1)
 
--- each of them keeps the limits of the format
-pub sound_kept : (low : Option Bytes) (bytes : Bytes) → IsBytes bytes → any_block_fault bytes ≡ None → AllByRecursion (IsEntryBy (format_in bytes)) (kept_from low (any_block_in bytes))
-sound_kept None bytes is none = (either_written bytes is none).0.each
-sound_kept (Some low) bytes is none = kept_sound (IsEntryBy (format_in bytes)) low (any_block_in bytes) (either_written bytes is none).0.each
+-- each of them is an entry, whatever the format
+entry_of_format : (f : Format) (e : Entry) → IsEntryOf f e → IsEntry e
+entry_of_format Old e is = is.sound
+entry_of_format Prefixed e is = is
+
+entries_sound : (f : Format) (es : List Entry) → AllByRecursion (IsEntryOf f) es → AllByRecursion IsEntry es
+entries_sound f [] each = tt
+entries_sound f (e ∷ es) each = (entry_of_format f e each.0, entries_sound f es each.1)
+
+pub sound_kept : (low : Option Bytes) (bytes : Bytes) → IsBytes bytes → block_fault bytes ≡ None → AllByRecursion IsEntry (kept_from low (block_in bytes))
+sound_kept None bytes is none = entries_sound (format_in bytes) (block_in bytes) (either_written bytes is none).0.each
+sound_kept (Some low) bytes is none = kept_sound IsEntry low (block_in bytes) (entries_sound (format_in bytes) (block_in bytes) (either_written bytes is none).0.each)
 
 -- ---- by what the header says
 
@@ -108,7 +115,7 @@ module _ (head : BlockHead) (bytes : Bytes) (is : IsHeadOf head bytes) where
     entries = subst (λ (g : Format). StandBy g head.count [] (part_walked all bytes)) (sym is.format) all_stand;
   }
 
-  pub walked_all : (buffer : Bytes) → walked all buffer bytes ≡ any_block_in bytes
+  pub walked_all : (buffer : Bytes) → walked all buffer bytes ≡ block_in bytes
   unfolding block_in_by
   walked_all buffer =
       ap (λ (g : Format). entries_by g head.count [] (part_walked all bytes)) is.format

@@ -14,9 +14,9 @@ use Rattle.map_model.specs.SortedMap.{Bytes}
 use Rattle.entry_model.specs.Entries.{Entry, entry_of}
 use Rattle.entry_model.specs.Newest.{lookup}
 use Rattle.entry_model.specs.Reading.{kind_in}
-use Rattle.block_model.specs.FormatFaults.{entries_fault_by}
+use Rattle.block_model.specs.BlockReading.{entries_fault_by}
 use Rattle.block_model.specs.Formats.{Prefixed, begins_anew, entries_by, key_by, rest_length_in, shared_in, value_by, value_length_by, wants_shared, width_by}
-use Rattle.block_model.proofs.PrefixedEntriesWritten.{rules_kept}
+use Rattle.block_model.proofs.EntriesWritten.{rules_kept}
 use Rattle.block_model.proofs.Refusals.{kept, neither}
 use Rattle.block_format.specs.Finding.{IsClose, StandClose, alike_after}
 use Rattle.block_format.proofs.Standing.{above_apart, less_of}

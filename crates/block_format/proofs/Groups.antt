@@ -11,15 +11,14 @@ use Rattle.key_base.specs.ByteOrder.{byte_order, is_before}
 use Rattle.map_model.specs.SortedMap.{Bytes}
 use Rattle.entry_model.specs.Entries.{Entry, entry_of, keys_of}
 use Rattle.entry_model.specs.Newest.{entries_from, lookup}
-use Rattle.block_model.specs.BlockReading.{count_in, used_in}
-use Rattle.block_model.specs.FormatFaults.{any_block_fault, any_block_in, block_fault_by, block_in_by, entries_place}
+use Rattle.block_model.specs.BlockReading.{block_fault, block_fault_by, block_in, block_in_by, count_in, entries_place, used_in}
 use Rattle.block_model.specs.FormatLaws.{listed_key}
 use Rattle.block_model.specs.Formats.{Format, Prefixed, entries_by, format_in, key_by, listed_in, places_length, rest_length_in, value_by, width_by}
 use Rattle.block_model.specs.Order.{Follow}
 use Rattle.block_model.specs.Pages.{first_key}
 use Rattle.block_model.proofs.ListedEntries.{block_many, block_rises, listed_are_later, listed_break_none, listed_is}
 use Rattle.block_format.specs.Finding.{IsGroupOf, IsGroupSize, IsHeadOf, StandClose}
-use Rattle.block_format.specs.declared.any_header.BlockHead.{BlockHead}
+use Rattle.block_format.specs.declared.header.BlockHead.{BlockHead}
 use Rattle.block_format.proofs.Close.{fits, stand_close}
 use Rattle.block_format.proofs.Standing.{above_apart, less_of}
 
@@ -92,7 +91,7 @@ taken (suc m) (suc n) before rest le =
 
 -- ---- a group
 
-module _ (bytes : Bytes) (format : format_in bytes ≡ Prefixed) (whole : any_block_fault bytes ≡ None) where
+module _ (bytes : Bytes) (format : format_in bytes ≡ Prefixed) (whole : block_fault bytes ≡ None) where
   abbrev part : ℕ → Bytes
   part j = drop (listed_in bytes j) (take (used_in bytes) bytes)
 
@@ -102,7 +101,7 @@ module _ (bytes : Bytes) (format : format_in bytes ≡ Prefixed) (whole : any_bl
   fault_free : block_fault_by Prefixed bytes ≡ None
   fault_free = sym (ap (λ (f : Format). block_fault_by f bytes) format) ∙ whole
 
-  named : any_block_in bytes ≡ entries
+  named : block_in bytes ≡ entries
   named = ap (λ (f : Format). block_in_by f bytes) format
 
   pub group_stands : (group size : ℕ) → 16 * group < count_in bytes → 16 * group + size ≤ count_in bytes → size ≤ 16 → StandClose size [] (part group)
@@ -136,7 +135,7 @@ module _ (bytes : Bytes) (format : format_in bytes ≡ Prefixed) (whole : any_bl
         left_out [] key entries (16 * suc g) (block_rises bytes fault_free) (omega (arith, inside, block_many bytes))
         (ap (is_before key) (sym (listed_is bytes fault_free (suc g) inside)) ∙ from)
 
-    pub from_group : entries_from (any_block_in bytes) key ≡ entries_from (drop (16 * group) (any_block_in bytes)) key
+    pub from_group : entries_from (block_in bytes) key ≡ entries_from (drop (16 * group) (block_in bytes)) key
     from_group =
         ap (λ (es : List Entry). entries_from es key) named
         ∙ from_of group refl
@@ -166,7 +165,7 @@ module _ (bytes : Bytes) (format : format_in bytes ≡ Prefixed) (whole : any_bl
         ∙ ap (is_before key) (sym (listed_is bytes fault_free (group + 1) inside))
         ∙ of.to inside
 
-    pub said_in_group : lookup (any_block_in bytes) key ≡ lookup (entries_by Prefixed size [] (part group)) key
+    pub said_in_group : lookup (block_in bytes) key ≡ lookup (entries_by Prefixed size [] (part group)) key
     said_in_group =
         let rise = rise_after [] entries (16 * group) (block_rises bytes fault_free) in
         ap (λ (es : List Entry). lookup es key) named

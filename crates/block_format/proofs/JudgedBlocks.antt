@@ -4,8 +4,7 @@ use Rattle.std.specs.Prelude.{Option, Some, None, Result, Ok, Err, IfOk, IfErr}
 use Rattle.std.proofs.lemmas.List.{drop-drop, drop-take, take-take}
 use Rattle.byte_fields.specs.Faults.{Fault}
 use Rattle.map_model.specs.SortedMap.{Bytes}
-use Rattle.block_model.specs.BlockReading.{count_in, tail_fault, used_in}
-use Rattle.block_model.specs.FormatFaults.{any_block_fault, entries_fault_by, entries_part_by, entries_place, entry_fault_by, header_fault_by, is_listed_elsewhere}
+use Rattle.block_model.specs.BlockReading.{block_fault, count_in, entries_fault_by, entries_part_by, entries_place, entry_fault_by, header_fault_by, is_listed_elsewhere, tail_fault, used_in}
 use Rattle.block_model.specs.Formats.{Format, entry_head_by, format_in, key_by, rest_length_in, shared_in, value_length_by, width_by}
 use Rattle.block_model.proofs.EntriesJudged.{all_entries, entries_broken, next_broken, next_kept, tail_broken}
 use Rattle.block_format.specs.Judging.{key_after, left_from}
@@ -96,8 +95,8 @@ module _ (bytes : Bytes) (f : Format) (used count from : ℕ) (is : f ≡ format
   same : all_entries f bytes ≡ entries_fault_by f bytes 0 count from [] (left_from used from bytes)
   same = sym (all_are f bytes used count from used_is count_is own_place le)
 
-  pub block_broken : (found : Fault) → entries_fault_by f bytes 0 count from [] (left_from used from bytes) ≡ Some found → any_block_fault bytes ≡ Some found
+  pub block_broken : (found : Fault) → entries_fault_by f bytes 0 count from [] (left_from used from bytes) ≡ Some found → block_fault bytes ≡ Some found
   block_broken found broken = entries_broken bytes f is found own_header (same ∙ broken)
 
-  pub block_ends : (found : Option Fault) → entries_fault_by f bytes 0 count from [] (left_from used from bytes) ≡ None → tail_fault bytes ≡ found → any_block_fault bytes ≡ found
+  pub block_ends : (found : Option Fault) → entries_fault_by f bytes 0 count from [] (left_from used from bytes) ≡ None → tail_fault bytes ≡ found → block_fault bytes ≡ found
   block_ends found none tail = tail_broken bytes f is found own_header (same ∙ none) tail

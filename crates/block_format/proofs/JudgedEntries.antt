@@ -7,10 +7,10 @@ use Rattle.key_base.specs.ByteOrder.{is_before}
 use Rattle.key_base.specs.Limits.{is_no_key_length}
 use Rattle.map_model.specs.SortedMap.{Bytes}
 use Rattle.entry_model.specs.Reading.{kind_in}
-use Rattle.block_model.specs.FormatFaults.{entry_fault_by, has_wrong_kind, shares_otherwise}
+use Rattle.block_model.specs.BlockReading.{entry_fault_by, has_wrong_kind, shares_otherwise}
 use Rattle.block_model.specs.Formats.{Format, entry_head_by, key_by, most_value, rest_length_in, shared_in, value_length_by, width_by}
 use Rattle.block_format.specs.Judging.{shares_wrongly}
-use Rattle.block_format.proofs.Judged.{wrongly_is}
+use Rattle.block_format.proofs.OneByte.{wrongly_is}
 
 -- the first rule is broken, and it is not
 stop : (bad : Bool) (place rule : ℕ) (later : Option Fault) → bad ≡ true → refuse bad place rule later ≡ Some (fault place rule)

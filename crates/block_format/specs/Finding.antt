@@ -4,16 +4,15 @@ use Rattle.key_base.specs.ByteOrder.{is_before}
 use Rattle.key_base.specs.Limits.{restart_entries}
 use Rattle.key_base.specs.Prefixes.{alike}
 use Rattle.map_model.specs.SortedMap.{Bytes}
-use Rattle.block_model.specs.BlockReading.{count_in, used_in}
-use Rattle.block_model.specs.FormatFaults.{any_block_fault, entries_place}
+use Rattle.block_model.specs.BlockReading.{block_fault, count_in, entries_place, used_in}
 use Rattle.block_model.specs.FormatLaws.{listed_key}
 use Rattle.block_model.specs.Formats.{Prefixed, format_in, key_by, shared_in, width_by}
 use Rattle.block_format.specs.Walking.{format_of}
-use Rattle.block_format.specs.declared.any_header.BlockHead.{BlockHead}
+use Rattle.block_format.specs.declared.header.BlockHead.{BlockHead}
 
 -- the bytes break no rule, and this is what their header says
 pub record IsHeadOf (head : BlockHead) (bytes : Bytes) : Type 0 where
-  pub whole : any_block_fault bytes ≡ None
+  pub whole : block_fault bytes ≡ None
   pub format : format_of head.format ≡ format_in bytes
   pub used : head.used ≡ used_in bytes
   pub count : head.count ≡ count_in bytes

@@ -6,7 +6,7 @@ use Rattle.key_base.specs.Limits.{max_key_bytes}
 use Rattle.map_model.specs.SortedMap.{Bytes}
 use Rattle.entry_model.specs.Entries.{Entry, entry_of}
 use Rattle.entry_model.specs.Newest.{entries_from}
-use Rattle.block_model.specs.FormatFaults.{any_block_in}
+use Rattle.block_model.specs.BlockReading.{block_in}
 use Rattle.block_model.specs.Formats.{Format, Old, Prefixed, entries_by, key_by, rest_length_in, shared_in, width_by}
 use Rattle.block_format.specs.declared.format.BlockFormat.{BlockFormat}
 use Rattle.block_format.specs.declared.format.BlockFormat.TheVariants as code
@@ -43,6 +43,11 @@ key_held walk buffer = take walk.key_length buffer
 abbrev pub walked : EntryWalk → Bytes → Bytes → List Entry
 walked walk buffer bytes = entries_by (format_of walk.format) walk.left (key_held walk buffer) (part_walked walk bytes)
 
+-- the entries from a bound on, all where there is none
+abbrev pub kept_from : Option Bytes → List Entry → List Entry
+kept_from None entries = entries
+kept_from (Some low) entries = entries_from entries low
+
 -- so many entries stand there, after the key in the buffer
 pub record StandsAfter (walk : EntryWalk) (buffer bytes : Bytes) : Type 0 where
   pub within : walk.at ≤ walk.end
@@ -54,7 +59,7 @@ pub record StandsAfter (walk : EntryWalk) (buffer bytes : Bytes) : Type 0 where
 -- that are not below a bound, or more.
 pub record BeginsFor (low : Bytes) (walk : EntryWalk) (bytes : Bytes) : Type 0 where
   pub stands : (buffer : Bytes) → StandsAfter walk buffer bytes
-  pub entries : (buffer : Bytes) → entries_from (walked walk buffer bytes) low ≡ entries_from (any_block_in bytes) low
+  pub entries : (buffer : Bytes) → entries_from (walked walk buffer bytes) low ≡ entries_from (block_in bytes) low
 
 -- the value that lies at a place of the bytes, none for a tombstone
 abbrev pub value_at : Option ValuePlace → Bytes → Option Bytes

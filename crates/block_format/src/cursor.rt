@@ -1,43 +1,69 @@
-//! The entries of a block, one after the other.
-ghost use Rattle.std.specs.Prelude.{◌≡◌, [], ◌∷◌, MatchOption};
+//! The entries of a block of either format, one after the other, while each key is built in a buffer of the cursor's own.
+ghost use Rattle.std.specs.Prelude.{◌≡◌, ◌∷◌, [], Some, None, MatchOption, is_some};
 ghost use Rattle.std.specs.Option.{option_map};
 ghost use Rattle.entry_model.specs.Entries.{entry_of};
-ghost use Rattle.block_format.specs.Spans.{StandsIn, spanned};
+ghost use Rattle.block_format.specs.Walking.{StandsAfter, walked};
 
-use crate::span::EntrySpan;
+use crate::walk::{EntryWalk, ValuePlace, value_of};
+use key_base::MAX_KEY_BYTES;
 use std::marker::Model;
 
-/// The entries of a block from a key on, in order. They lie in the block's bytes, and no memory is taken.
+/// A walk over the entries of a block of either format, seen as the entry at hand and those that are still to come.
 #[derive(Drop)]
 pub struct BlockCursor<'a> {
     bytes: &'a [u8],
-    rest: EntrySpan,
+    walk: EntryWalk,
+    // the key at hand is at its front
+    buffer: [u8; MAX_KEY_BYTES],
+    place: Option<Option<ValuePlace>>,
 }
 
 impl<'a> Model for BlockCursor<'a> {
-    ghost use Rattle.std.specs.Prelude.{List};
-    ghost use Rattle.entry_model.specs.Entries.{Entry};
-    ghost use Rattle.block_format.specs.Spans.{StandsIn, spanned};
+    ghost use Rattle.std.specs.Prelude.{IfSome};
+    ghost use Rattle.block_format.specs.Walking.{EntriesLeft, LiesIn, StandsAfter, at_hand, key_held, walked};
 
-    ghost Value = { List Entry };
+    ghost Value = { EntriesLeft };
 
-    ghost view = { λ c. spanned c.rest c.bytes.now };
+    ghost view = { λ c. record { now = at_hand c.place (key_held c.walk c.buffer) c.bytes.now; later = walked c.walk c.buffer c.bytes.now } };
 
-    ghost invariant = { λ c. StandsIn c.rest c.bytes.now };
+    ghost invariant = { λ c. StandsAfter c.walk c.buffer c.bytes.now × IfSome c.place (λ v. LiesIn v c.bytes.now) };
 }
 
 impl<'a> BlockCursor<'a> {
-    pub(crate) fn new(bytes: &'a [u8], rest: EntrySpan) -> BlockCursor<'a>
-        requires { StandsIn rest bytes.now }
-        ensures { result ≡ spanned rest bytes.now }
+    /// None at hand, and those to come that a walk comes by after the key in a buffer.
+    pub(crate) fn new(
+        bytes: &'a [u8],
+        walk: EntryWalk,
+        buffer: [u8; MAX_KEY_BYTES],
+    ) -> BlockCursor<'a>
+        requires { StandsAfter walk buffer bytes.now }
+        ensures { result ≡ record { now = None; later = walked walk buffer bytes.now } }
     {
-        BlockCursor { bytes, rest }
+        BlockCursor {
+            bytes,
+            walk,
+            buffer,
+            place: None,
+        }
     }
 
-    /// The next entry's key and value, `None` for a tombstone's value, or `None` where none is left.
-    pub fn next(&mut self) -> Option<(&'a [u8], Option<&'a [u8]>)>
-        ensures { MatchOption result ((self.old ≡ []) × (self.new ≡ [])) (λ found. self.old ≡ entry_of found.0.now (option_map (λ v. v.now) found.1) ∷ self.new) }
+    /// Takes the first entry that is still to come at hand, and answers whether there was one. Its key is built in the cursor.
+    pub fn advance(&mut self) -> bool
+        ensures said { result ≡ is_some self.new.now }
+        ensures goes_on { MatchOption self.new.now ((self.old.later ≡ []) × (self.new.later ≡ [])) (λ e. self.old.later ≡ e ∷ self.new.later) }
     {
-        self.rest.next(self.bytes)
+        let place = self.walk.advance(self.bytes, &mut self.buffer);
+        self.place = place;
+        place.is_some()
+    }
+
+    /// The entry at hand: its key lies in the cursor, its value in the block.
+    pub fn entry(&self) -> Option<(&[u8], Option<&'a [u8]>)>
+        ensures { option_map (λ found. entry_of found.0.now (option_map (λ v. v.now) found.1)) result ≡ self.now.now }
+    {
+        match self.place {
+            Some(place) => Some((self.walk.key(&self.buffer), value_of(place, self.bytes))),
+            None => None,
+        }
     }
 }

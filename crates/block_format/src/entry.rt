@@ -2,7 +2,7 @@
 ghost use Rattle.std.specs.Prelude.{◌≡◌, ◌≤◌, length, Some, None, IfOk, IfErr};
 ghost use Rattle.std.specs.Option.{option_map};
 ghost use Rattle.entry_model.specs.Entries.{entry_of};
-ghost use Rattle.block_model.specs.BlockReading.{entry_fault};
+ghost use Rattle.block_model.specs.OldReading.{old_entry_fault};
 ghost use Rattle.entry_model.specs.Reading.{entry_in, key_in, width_in};
 ghost use Rattle.key_base.specs.ByteOrder.{is_before};
 ghost use Rattle.block_format.specs.Reading.{passes_after, seen};
@@ -45,15 +45,15 @@ pub(crate) struct EntryHere<'a> {
 
 /// The entry that the bytes begin with, or the first rule that it breaks. Its place is `place`, and `before` is the key
 /// before it.
-#[tactic(auto, unfolding(block_model::specs::BlockReading::entry_fault, entry_model::specs::Reading::entry_in, entry_model::specs::Reading::key_in, entry_model::specs::Reading::width_in))]
+#[tactic(auto, unfolding(block_model::specs::OldReading::old_entry_fault, entry_model::specs::Reading::entry_in, entry_model::specs::Reading::key_in, entry_model::specs::Reading::width_in))]
 pub(crate) fn first_entry<'a>(
     bytes: &'a [u8],
     place: usize,
     before: Option<&[u8]>,
 ) -> Result<EntryHere<'a>, BlockFault>
-    ensures broken { IfErr result (λ found. entry_fault place (passes_after (option_map (λ k. k.now) before.entry)) bytes.now ≡ Some (seen found)) }
+    ensures broken { IfErr result (λ found. old_entry_fault place (passes_after (option_map (λ k. k.now) before.entry)) bytes.now ≡ Some (seen found)) }
     ensures place { IfErr result (λ found. found.place ≡ place) }
-    ensures whole { IfOk result (λ _. entry_fault place (passes_after (option_map (λ k. k.now) before.entry)) bytes.now ≡ None) }
+    ensures whole { IfOk result (λ _. old_entry_fault place (passes_after (option_map (λ k. k.now) before.entry)) bytes.now ≡ None) }
     ensures entry { IfOk result (λ r. entry_of r.key.now (option_map (λ v. v.now) r.value) ≡ entry_in bytes.now) }
     ensures key { IfOk result (λ r. r.key.now ≡ key_in bytes.now) }
     ensures width { IfOk result (λ r. r.width ≡ width_in bytes.now) }

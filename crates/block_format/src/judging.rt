@@ -3,7 +3,7 @@ ghost use Rattle.std.specs.Prelude.{◌≡◌, ◌≤◌, ◌<◌, ◌+◌, ◌+
 ghost use Rattle.key_base.specs.ByteOrder.{is_before};
 ghost use Rattle.key_base.specs.Limits.{is_no_key_length, max_key_bytes};
 ghost use Rattle.key_base.specs.Prefixes.{alike};
-ghost use Rattle.block_model.specs.FormatFaults.{entry_fault_by};
+ghost use Rattle.block_model.specs.BlockReading.{entry_fault_by};
 ghost use Rattle.block_model.specs.Formats.{entry_head_by, most_value, rest_length_in, shared_in, value_length_by, wants_shared};
 ghost use Rattle.block_format.specs.Judging.{shares_wrongly};
 ghost use Rattle.block_format.specs.Reading.{seen};
@@ -15,13 +15,12 @@ use crate::entry::{
 use crate::fault::BlockFault;
 use crate::format::BlockFormat;
 use crate::head::{EntryHead, PREFIXED_HEAD_BYTES, head_of};
-use key_base::{ENTRY_HEAD_BYTES, MAX_KEY_BYTES, MAX_LOGGED_VALUE_BYTES, RESTART_ENTRIES};
+use key_base::{
+    ENTRY_HEAD_BYTES, MAX_KEY_BYTES, MAX_LOGGED_VALUE_BYTES, MAX_VALUE_BYTES, RESTART_ENTRIES,
+};
 
 // An entry shares another number of bytes with the key before than it has to.
 const SHARES_OTHERWISE: u8 = 10;
-
-// The bytes of the longest value of an entry with a shared prefix.
-const MAX_PREFIXED_VALUE_BYTES: usize = 1_048_576;
 
 /// What entry `i`, which these bytes begin with at a place, says before its key, or the first rule that it breaks. `before` is
 /// the key before it, empty for the first one.
@@ -99,7 +98,7 @@ fn is_out_of_limits(format: BlockFormat, head: EntryHead) -> bool
     let key = head.shared + head.rest;
     let most = match format {
         BlockFormat::Old => MAX_LOGGED_VALUE_BYTES,
-        BlockFormat::Prefixed => MAX_PREFIXED_VALUE_BYTES,
+        BlockFormat::Prefixed => MAX_VALUE_BYTES,
     };
     key == 0 || key > MAX_KEY_BYTES || head.value > most
 }
@@ -114,7 +113,7 @@ fn shares_wrongly(format: BlockFormat, i: usize, shared: usize, before: &[u8], r
     }
 }
 
-#[tactic(auto, using(crate::proofs::Judged::anew_is, crate::proofs::Judged::past_it))]
+#[tactic(auto, using(crate::proofs::OneByte::anew_is, crate::proofs::OneByte::past_it))]
 fn shares_another(i: usize, shared: usize, before: &[u8], rest: &[u8]) -> bool
     ensures { result ≡ not (shared == wants_shared i before.now (take shared before.now ++ rest.now)) }
 {
@@ -128,7 +127,7 @@ fn shares_another(i: usize, shared: usize, before: &[u8], rest: &[u8]) -> bool
 }
 
 // Whether two byte strings have their first byte alike.
-#[tactic(auto, using(crate::proofs::Judged::none_alike, crate::proofs::Judged::none_alike_after, crate::proofs::Judged::first_alike))]
+#[tactic(auto, using(crate::proofs::OneByte::none_alike, crate::proofs::OneByte::none_alike_after, crate::proofs::OneByte::first_alike))]
 fn begins_alike(one: &[u8], other: &[u8]) -> bool
     ensures { result ≡ not (alike one.now other.now == 0) }
 {
@@ -142,7 +141,7 @@ fn begins_alike(one: &[u8], other: &[u8]) -> bool
 }
 
 // Whether the key that is so many bytes of the one before and a rest is above it.
-#[tactic(auto, using(crate::proofs::Judged::whole_above))]
+#[tactic(auto, using(crate::proofs::OneByte::whole_above))]
 fn is_above(shared: usize, before: &[u8], rest: &[u8]) -> bool
     requires few { shared ≤ length before.now }
     requires apart { 0 < shared → alike (drop shared before.now) rest.now ≡ 0 }
@@ -156,7 +155,7 @@ fn is_above(shared: usize, before: &[u8], rest: &[u8]) -> bool
 }
 
 /// Whether a byte string is below another one that begins with another byte.
-#[tactic(auto, using(crate::proofs::Judged::none_below, crate::proofs::Judged::shorter_below, crate::proofs::Judged::first_below))]
+#[tactic(auto, using(crate::proofs::OneByte::none_below, crate::proofs::OneByte::shorter_below, crate::proofs::OneByte::first_below))]
 pub(crate) fn first_is_below(low: &[u8], high: &[u8]) -> bool
     requires { alike low.now high.now ≡ 0 }
     ensures { result ≡ is_before low.now high.now }

@@ -8,7 +8,7 @@ use Rattle.entry_model.specs.Entries.{Entry, IsEntry}
 use Rattle.block_model.specs.Block.{AreEntries}
 use Rattle.block_model.specs.Pages.{block_length, block_pages, blocks_of, blocks_with, first_key, last_key, pages_for}
 use Rattle.block_model.proofs.Cutting.{IsPart, blocks_are_parts, in_room}
-use Rattle.block_model.proofs.Sizes.{bodies_bound}
+use Rattle.block_model.proofs.BlocksRead.{most_length}
 
 -- ---- at most as many blocks as entries
 
@@ -25,18 +25,12 @@ pub few_blocks : (entries : List Entry) → length (blocks_of entries) ≤ lengt
 unfolding blocks_of
 few_blocks entries = omega (arith, many_after [] entries)
 
--- ---- a block takes at most 17 pages
+-- ---- a block takes at most 257 pages
 
-alone : (block : List Entry) → AllByRecursion IsEntry block → length block ≤ 1 → block_length block ≤ 66575
-unfolding block_length
-alone block each le = omega (arith, bodies_bound block each, le)
+pub length_bound : (block : List Entry) → IsPart block → block_length block ≤ 1049619
+length_bound block part = most_length block part.each part.some part.small
 
-pub length_bound : (block : List Entry) → IsPart block → block_length block ≤ 66575
-length_bound [] part = alone [] part.each (omega arith)
-length_bound (e ∷ []) part = alone (e ∷ []) part.each (omega arith)
-length_bound (e ∷ next ∷ more) part = omega (arith, part.small (omega arith))
-
-pub pages_bound : (block : List Entry) → IsPart block → block_pages block ≤ 17
+pub pages_bound : (block : List Entry) → IsPart block → block_pages block ≤ 257
 unfolding block_pages pages_for
 pages_bound block part = omega (arith, length_bound block part)
 
@@ -50,8 +44,8 @@ weaker P Q h (x ∷ xs) all = (h x all.0, weaker P Q h xs all.1)
 
 pub data_bound : (entries : List Entry) → AreEntries entries → sum_by block_pages (blocks_of entries) < 2 ^ 60
 data_bound entries is =
-    let each = weaker IsPart (λ b. block_pages b ≤ 17) pages_bound (blocks_of entries) (blocks_are_parts entries is.each) in
-    omega (arith, sums_bound block_pages 17 (blocks_of entries) each, few_blocks entries, is.few)
+    let each = weaker IsPart (λ b. block_pages b ≤ 257) pages_bound (blocks_of entries) (blocks_are_parts entries is.each) in
+    omega (arith, sums_bound block_pages 257 (blocks_of entries) each, few_blocks entries, is.few)
 
 last_bound : (block : List Entry) → AllByRecursion IsEntry block → length (last_key block) ≤ 1024
 last_bound [] each = omega arith

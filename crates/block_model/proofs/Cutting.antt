@@ -1,17 +1,19 @@
--- How entries are cut into blocks.
-use Rattle.std.proofs.Common.{◌≡◌, ◌<◌, ◌≤◌, Bool, true, false, cond, List, [], ◌∷◌, ◌++◌, length, refl, sym, ap, subst, ◌∙◌, arith, append_assoc, length-append}
-use Rattle.std.specs.Prelude.{fold, nat_le, nat_lt}
+-- How entries are cut into blocks, and how many pages these take.
+use Rattle.std.proofs.Common.{◌≡◌, ◌<◌, ◌≤◌, ◌*◌, Bool, true, false, cond, List, [], ◌∷◌, ◌++◌, length, refl, sym, ap, subst, ◌∙◌, arith, append_assoc, length-append}
+use Rattle.std.specs.Prelude.{fold, flat_map, nat_le, nat_lt, sum_by}
 use Rattle.std.specs.List.{AllByRecursion}
 use Rattle.std.proofs.lemmas.Bool.{and_parts, leb-true, ltb-true}
 use Rattle.std.proofs.lemmas.List.{append-nil}
-use Rattle.std.proofs.lemmas.List.Sums.{fold-append}
+use Rattle.std.proofs.lemmas.List.Sums.{fold-append, sum_by-cons}
+use Rattle.key_base.specs.ByteOrder.{is_before}
 use Rattle.map_model.specs.SortedMap.{Bytes}
 use Rattle.entry_model.specs.Entries.{Entry, IsEntry, keys_of}
-use Rattle.block_model.specs.Block.{IsBlock}
-use Rattle.block_model.specs.Laws.{joined, BlocksAreTheEntries, BlocksGrow, BlocksAreSound}
-use Rattle.key_base.specs.ByteOrder.{is_before}
+use Rattle.block_model.specs.Block.{IsBlock, block_bytes, data_bytes}
+use Rattle.block_model.specs.Formats.{Prefixed}
+use Rattle.block_model.specs.Laws.{BlockFillsItsPages, BlockHasFewPages, BlocksAreSound, BlocksAreTheEntries, BlocksFillTheirPages, BlocksGrow, joined}
 use Rattle.block_model.specs.Order.{Follow, is_any}
-use Rattle.block_model.specs.Pages.{page_bytes, max_block_entries, block_length, has_room, blocks_with, blocks_of}
+use Rattle.block_model.specs.Pages.{block_length, block_pages, blocks_of, blocks_with, data_pages, has_room, max_block_entries, page_bytes, pages_for}
+use Rattle.block_model.proofs.BlocksRead.{length_most, long_enough, block_fills}
 
 pub blocks_step : BlocksGrow
 unfolding blocks_of
@@ -20,11 +22,13 @@ blocks_step entries e = fold-append blocks_with [] entries (e ∷ [])
 -- ---- the blocks with one entry more are these, or these with a block more
 
 pub in_room : (P : List (List Entry) → Type 0) (block : List Entry) (e : Entry)
-    → (has_room block e ≡ true → P ((block ++ (e ∷ [])) ∷ [])) → (has_room block e ≡ false → P (block ∷ (e ∷ []) ∷ [])) → P (blocks_with (block ∷ []) e)
-in_room P block e room none = elim (has_room block e) as (λ t. has_room block e ≡ t → P (cond t ((block ++ (e ∷ [])) ∷ []) (block ∷ (e ∷ []) ∷ []))) [
-  | true ↦ room
-  | false ↦ none
-] refl
+    → (has_room block e ≡ true → P ((block ++ (e ∷ [])) ∷ [])) → (has_room block e ≡ false → P (block ∷ (e ∷ []) ∷ []))
+    → P (blocks_with (block ∷ []) e)
+in_room P block e room none =
+    elim (has_room block e) as (λ t. has_room block e ≡ t → P (cond t ((block ++ (e ∷ [])) ∷ []) (block ∷ (e ∷ []) ∷ []))) [
+      | true ↦ room
+      | false ↦ none
+    ] refl
 
 -- ---- joined they are the entries
 
@@ -70,7 +74,7 @@ pub all_append : {X : Type 0} (P : X → Type 0) (xs ys : List X) → AllByRecur
 all_append P [] ys a b = b
 all_append P (x ∷ xs) ys a b = (a.0, all_append P xs ys a.1 b)
 
--- ---- a block of a table: its entries are, it has 1 to 255, and several in a page at most
+-- ---- a block of a table: its entries are of the format, it has 1 to 255, and several in a page at most
 
 pub record IsPart (block : List Entry) : Type 0 where
   pub each : AllByRecursion IsEntry block
@@ -94,7 +98,8 @@ part_more block e part is room =
     }
 
 pub blocks_are_parts : (entries : List Entry) → AllByRecursion IsEntry entries → AllByRecursion IsPart (blocks_of entries)
-blocks_are_parts entries each = each_block IsEntry IsPart part_alone part_more entries each
+unfolding blocks_of
+blocks_are_parts entries each = each_after IsEntry IsPart part_alone part_more [] entries tt each
 
 -- ---- and its keys rise
 
@@ -117,9 +122,37 @@ each_rises (block ∷ more) f = (follow_front is_any block (joined more) f, each
 pub blocks_rise : (entries : List Entry) → Follow is_any (keys_of entries) → AllByRecursion (λ b. Follow is_any (keys_of b)) (blocks_of entries)
 blocks_rise entries f = each_rises (blocks_of entries) (subst (λ (l : List Entry). Follow is_any (keys_of l)) (sym (blocks_joined entries)) f)
 
-both_hold : (blocks : List (List Entry)) → AllByRecursion IsPart blocks → AllByRecursion (λ b. Follow is_any (keys_of b)) blocks → AllByRecursion IsBlock blocks
+both_hold : (blocks : List (List Entry)) → AllByRecursion IsPart blocks → AllByRecursion (λ b. Follow is_any (keys_of b)) blocks
+    → AllByRecursion (IsBlock Prefixed) blocks
 both_hold [] parts rise = tt
-both_hold (block ∷ more) parts rise = (record { each = parts.0.each; rising = rise.0; some = parts.0.some; few = parts.0.few; small = parts.0.small }, both_hold more parts.1 rise.1)
+both_hold (block ∷ more) parts rise =
+    (record { each = parts.0.each; rising = rise.0; some = parts.0.some; few = parts.0.few; small = parts.0.small }, both_hold more parts.1 rise.1)
 
 pub blocks_are_sound : BlocksAreSound
 blocks_are_sound entries is = both_hold (blocks_of entries) (blocks_are_parts entries is.sound.each) (blocks_rise entries is.rising)
+
+-- ---- pages
+
+pub block_fills_pages : BlockFillsItsPages
+unfolding block_pages
+block_fills_pages block = block_fills block
+
+pub blocks_fill : (blocks : List (List Entry)) → length (flat_map block_bytes blocks) ≡ 4096 * sum_by block_pages blocks
+unfolding block_pages
+blocks_fill [] = refl
+blocks_fill (block ∷ more) =
+    omega (
+      arith,
+      length-append (block_bytes block) (flat_map block_bytes more),
+      block_fills block,
+      blocks_fill more,
+      sum_by-cons block_pages block more,
+    )
+
+pub data_fills : BlocksFillTheirPages
+unfolding data_bytes data_pages
+data_fills entries = blocks_fill (blocks_of entries)
+
+pub block_has_few_pages : BlockHasFewPages
+unfolding block_pages pages_for
+block_has_few_pages block is = (omega (arith, long_enough block is), omega (arith, length_most block is))

@@ -5,9 +5,8 @@ use Rattle.std.specs.Prelude.{Option, Some, None}
 use Rattle.std.proofs.lemmas.Bool.{le-ltb, lt-ltb}
 use Rattle.byte_fields.specs.Faults.{Fault, fault, refuse}
 use Rattle.map_model.specs.SortedMap.{Bytes}
-use Rattle.entry_model.specs.Entries.{Entry, entry_of}
-use Rattle.block_model.specs.BlockReading.{count_in, tail_fault, used_in}
-use Rattle.block_model.specs.FormatFaults.{any_block_fault, any_block_in, block_fault_by, block_in_by, entries_fault_by, entries_part_by, entries_place, entry_fault_by, header_fault_by, is_listed_elsewhere}
+use Rattle.entry_model.specs.Entries.{entry_of}
+use Rattle.block_model.specs.BlockReading.{block_fault, block_fault_by, block_in, block_in_by, count_in, entries_fault_by, entries_part_by, entries_place, entry_fault_by, header_fault_by, is_listed_elsewhere, tail_fault}
 use Rattle.block_model.specs.Formats.{Format, entries_by, format_in, key_by, value_by, width_by}
 use Rattle.block_model.proofs.Refusals.{neither}
 
@@ -64,21 +63,21 @@ abbrev pub all_entries : Format → Bytes → Option Fault
 all_entries f bytes = entries_fault_by f bytes 0 (count_in bytes) (entries_place f bytes) [] (entries_part_by f bytes)
 
 module _ (bytes : Bytes) (f : Format) (is : f ≡ format_in bytes) where
-  named : any_block_fault bytes ≡ block_fault_by f bytes
+  named : block_fault bytes ≡ block_fault_by f bytes
   named = ap (λ (g : Format). block_fault_by g bytes) (sym is)
 
-  pub header_broken : (found : Fault) → header_fault_by f bytes ≡ Some found → any_block_fault bytes ≡ Some found
+  pub header_broken : (found : Fault) → header_fault_by f bytes ≡ Some found → block_fault bytes ≡ Some found
   unfolding block_fault_by
   header_broken found broken = named ∙ ap (λ (h : Option Fault). option_or h (option_or (all_entries f bytes) (tail_fault bytes))) broken
 
-  pub entries_broken : (found : Fault) → header_fault_by f bytes ≡ None → all_entries f bytes ≡ Some found → any_block_fault bytes ≡ Some found
+  pub entries_broken : (found : Fault) → header_fault_by f bytes ≡ None → all_entries f bytes ≡ Some found → block_fault bytes ≡ Some found
   unfolding block_fault_by
   entries_broken found header broken =
       named
       ∙ ap (λ (h : Option Fault). option_or h (option_or (all_entries f bytes) (tail_fault bytes))) header
       ∙ ap (λ (e : Option Fault). option_or e (tail_fault bytes)) broken
 
-  pub tail_broken : (found : Option Fault) → header_fault_by f bytes ≡ None → all_entries f bytes ≡ None → tail_fault bytes ≡ found → any_block_fault bytes ≡ found
+  pub tail_broken : (found : Option Fault) → header_fault_by f bytes ≡ None → all_entries f bytes ≡ None → tail_fault bytes ≡ found → block_fault bytes ≡ found
   unfolding block_fault_by
   tail_broken found header entries tail =
       named
@@ -86,13 +85,13 @@ module _ (bytes : Bytes) (f : Format) (is : f ≡ format_in bytes) where
       ∙ ap (λ (e : Option Fault). option_or e (tail_fault bytes)) entries
       ∙ tail
 
-  pub header_kept : any_block_fault bytes ≡ None → header_fault_by f bytes ≡ None
+  pub header_kept : block_fault bytes ≡ None → header_fault_by f bytes ≡ None
   unfolding block_fault_by
   header_kept none = (neither (header_fault_by f bytes) _ (sym named ∙ none)).0
 
-  pub entries_kept : any_block_fault bytes ≡ None → all_entries f bytes ≡ None
+  pub entries_kept : block_fault bytes ≡ None → all_entries f bytes ≡ None
   unfolding block_fault_by
   entries_kept none = (neither (all_entries f bytes) (tail_fault bytes) (neither (header_fault_by f bytes) _ (sym named ∙ none)).1).0
 
-  pub named_in : any_block_in bytes ≡ block_in_by f bytes
+  pub named_in : block_in bytes ≡ block_in_by f bytes
   named_in = ap (λ (g : Format). block_in_by g bytes) (sym is)

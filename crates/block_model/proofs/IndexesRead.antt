@@ -11,8 +11,8 @@ use Rattle.block_model.specs.Index.{Index, IndexRow, IsIndex, index_bytes, index
 use Rattle.block_model.specs.IndexReading.{head_width_in, index_fault, index_head_fault, index_in, least_in, least_length_in, pages_fault, rows_count_in, rows_fault, rows_in}
 use Rattle.block_model.specs.Laws.{IndexIsReadAgain, IndexWasWrittenSo}
 use Rattle.block_model.specs.Order.{is_from}
-use Rattle.block_model.proofs.EntriesRead.{eqb_zero, key_length_kept}
-use Rattle.block_model.proofs.EntriesWritten.{key_length_sound}
+use Rattle.block_model.proofs.OldEntriesRead.{eqb_zero, key_length_kept}
+use Rattle.block_model.proofs.OldEntriesWritten.{key_length_sound}
 use Rattle.entry_model.proofs.Bodies.{joined}
 use Rattle.block_model.proofs.LastBlocks.{positive}
 use Rattle.block_model.proofs.Lengths.{length-head}

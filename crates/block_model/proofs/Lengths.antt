@@ -5,38 +5,29 @@ use Rattle.std.proofs.lemmas.List.{length-replicate}
 use Rattle.std.proofs.lemmas.List.Sums.{sum_by-cons}
 use Rattle.byte_fields.specs.Fields.{fields}
 use Rattle.entry_model.specs.Entries.{Entry, body, bytes_of}
-use Rattle.block_model.specs.Block.{block_bytes, data_bytes, header_bytes, padding}
-use Rattle.block_model.specs.Index.{index_head_widths, index_magic, index_row_widths, Index, IndexRow, index_bytes, index_head_bytes, index_of, index_row_bytes, index_row_of}
-use Rattle.block_model.specs.Laws.{BlockFillsItsPages, BlocksFillTheirPages, IndexHasItsLength}
-use Rattle.block_model.specs.Pages.{block_length, block_pages, blocks_of, data_pages, index_length, last_key, pages_for}
+use Rattle.block_model.specs.Index.{Index, IndexRow, index_bytes, index_head_bytes, index_head_widths, index_magic, index_of, index_row_bytes, index_row_of, index_row_widths}
+use Rattle.block_model.specs.Laws.{IndexHasItsLength}
+use Rattle.block_model.specs.OldBlock.{old_block_bytes, old_block_length, old_header_bytes}
+use Rattle.block_model.specs.Pages.{blocks_of, index_length, last_key, padding, pages_for}
 
 pub length-body : (e : Entry) → length (body e) ≡ 7 + (length e.key + length (bytes_of e.value))
 length-body e = omega (arith, length-append e.key (bytes_of e.value))
 
-pub length-header : (block : List Entry) → length (header_bytes block) ≡ 8
-unfolding header_bytes
+pub length-header : (block : List Entry) → length (old_header_bytes block) ≡ 8
+unfolding old_header_bytes
 length-header block = refl
 
 pub in_pages : (n : ℕ) → n ≤ 4096 * pages_for n
 unfolding pages_for
 in_pages n = omega arith
 
-pub block_fills : BlockFillsItsPages
-unfolding block_bytes padding block_pages block_length
-block_fills block =
+pub old_fills : (block : List Entry) → length (old_block_bytes block) ≡ 4096 * pages_for (old_block_length block)
+unfolding old_block_bytes padding old_block_length
+old_fills block =
     let bodies = flat_map body block in
     let n = 8 + length bodies in
     let zeros : List ℕ = replicate (4096 * pages_for n - n) 0 in
-    omega (arith, length-append (header_bytes block) (bodies ++ zeros), length-append bodies zeros, length-header block, length-replicate {A = ℕ} (4096 * pages_for n - n) 0, in_pages n)
-
-pub blocks_fill : (blocks : List (List Entry)) → length (flat_map block_bytes blocks) ≡ 4096 * sum_by block_pages blocks
-blocks_fill [] = refl
-blocks_fill (block ∷ more) =
-    omega (arith, length-append (block_bytes block) (flat_map block_bytes more), block_fills block, blocks_fill more, sum_by-cons block_pages block more)
-
-pub data_fills : BlocksFillTheirPages
-unfolding data_bytes data_pages
-data_fills entries = blocks_fill (blocks_of entries)
+    omega (arith, length-append (old_header_bytes block) (bodies ++ zeros), length-append bodies zeros, length-header block, length-replicate {A = ℕ} (4096 * pages_for n - n) 0, in_pages n)
 
 pub length-row : (row : IndexRow) → length (index_row_bytes row) ≡ 14 + length row.last
 unfolding index_row_bytes

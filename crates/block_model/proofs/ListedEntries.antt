@@ -8,14 +8,13 @@ use Rattle.key_base.specs.ByteOrder.{byte_order, is_before}
 use Rattle.key_base.specs.Limits.{is_no_key_length}
 use Rattle.map_model.specs.SortedMap.{Bytes}
 use Rattle.entry_model.specs.Entries.{Entry, entry_of, keys_of}
-use Rattle.block_model.specs.BlockReading.{count_in, used_in}
-use Rattle.block_model.specs.FormatFaults.{block_fault_by, block_in_by, entries_fault_by, entries_part_by, entry_fault_by, has_wrong_kind, shares_otherwise}
+use Rattle.block_model.specs.BlockReading.{block_fault_by, block_in_by, count_in, entries_fault_by, entries_part_by, entry_fault_by, has_wrong_kind, shares_otherwise, used_in}
 use Rattle.block_model.specs.FormatLaws.{ListedEntriesAreTheLater, ListedEntriesBreakNoRule, ListedKeysRise, listed_key}
+use Rattle.block_model.specs.Formats.{Format, Prefixed, begins_anew, entries_by, entry_head_by, key_by, listed_in, most_value, places_length, rest_length_in, shared_in, value_by, value_length_by, wants_shared, width_by}
 use Rattle.block_model.specs.Order.{Follow}
 use Rattle.block_model.specs.Pages.{first_key}
-use Rattle.block_model.specs.Formats.{Format, Prefixed, begins_anew, entries_by, entry_head_by, key_by, listed_in, most_value, places_length, rest_length_in, shared_in, value_by, value_length_by, wants_shared, width_by}
-use Rattle.block_model.proofs.PrefixedBlocksRead.{above_none}
-use Rattle.block_model.proofs.PrefixedEntriesWritten.{not_listed_elsewhere, rules_kept}
+use Rattle.block_model.proofs.BlocksRead.{above_none}
+use Rattle.block_model.proofs.EntriesWritten.{not_listed_elsewhere, rules_kept}
 use Rattle.block_model.proofs.Refusals.{kept, neither, none_of, not_true, passed}
 use Rattle.block_model.proofs.TableIndex.{above_above, less_of}
 

@@ -10,10 +10,10 @@ use Rattle.byte_fields.proofs.NumberLemmas.{IsBytes-drop, number_again, number_b
 use Rattle.map_model.specs.SortedMap.{Bytes}
 use Rattle.block_model.specs.Index.{IndexRow, IsIndexRow, index_row_bytes}
 use Rattle.block_model.specs.IndexReading.{last_in, last_length_in, pages_in, row_fault, row_in, row_width_in, rows_fault, rows_in, sum_in}
-use Rattle.key_base.specs.ByteOrder.{is_before}
 use Rattle.block_model.specs.Order.{Follow}
-use Rattle.block_model.proofs.EntriesRead.{eqb_zero, key_length_kept}
-use Rattle.block_model.proofs.EntriesWritten.{key_length_sound}
+use Rattle.key_base.specs.ByteOrder.{is_before}
+use Rattle.block_model.proofs.OldEntriesRead.{eqb_zero, key_length_kept}
+use Rattle.block_model.proofs.OldEntriesWritten.{key_length_sound}
 use Rattle.entry_model.proofs.Bodies.{joined}
 use Rattle.block_model.proofs.LastBlocks.{positive}
 use Rattle.block_model.proofs.Lengths.{length-row}
@@ -64,7 +64,7 @@ row_kept place test row rest is passes =
     passed _ _ _ _ (or_from _ _ (le-ltb (length bytes) 14 (omega (arith, long, n))) (le-ltb (length bytes) (row_width_in bytes) (omega (arith, long, width_again row rest is))))
     (passed _ _ _ _ (key_length_kept (last_length_in bytes) (omega (arith, k, is.some_key)) (omega (arith, k, is.short_key)))
     (passed _ _ _ _ (not_true (test (last_in bytes)) (ap test (last_again row rest is) ∙ passes))
-    (passed _ _ _ _ (or_from _ _ (eqb_zero (pages_in bytes) (omega (arith, p, is.some_pages))) (le-ltb 17 (pages_in bytes) (omega (arith, p, is.few_pages)))) refl)))
+    (passed _ _ _ _ (or_from _ _ (eqb_zero (pages_in bytes) (omega (arith, p, is.some_pages))) (le-ltb 257 (pages_in bytes) (omega (arith, p, is.few_pages)))) refl)))
 
 past_row : (row : IndexRow) (rest : Bytes) → IsIndexRow row → drop (row_width_in (index_row_bytes row ++ rest)) (index_row_bytes row ++ rest) ≡ rest
 past_row row rest is = drop_at (index_row_bytes row) rest (row_width_in (index_row_bytes row ++ rest)) (sym (width_again row rest is))

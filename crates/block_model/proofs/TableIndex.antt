@@ -15,9 +15,9 @@ use Rattle.entry_model.specs.Entries.{Entry, IsEntry, keys_of}
 use Rattle.block_model.specs.Block.{block_bytes}
 use Rattle.block_model.specs.Index.{IndexRow, IsIndexRow, index_of, index_row_of, row_pages}
 use Rattle.block_model.specs.Laws.{IndexIsSound, joined}
-use Rattle.key_base.specs.ByteOrder.{is_before}
 use Rattle.block_model.specs.Order.{Follow, is_any, is_from}
 use Rattle.block_model.specs.Pages.{block_length, block_pages, blocks_of, data_pages, first_key, last_key, pages_for}
+use Rattle.key_base.specs.ByteOrder.{is_before}
 use Rattle.block_model.proofs.Bounds.{few_blocks, pages_bound}
 use Rattle.block_model.proofs.Cutting.{IsPart, blocks_are_parts, blocks_joined}
 

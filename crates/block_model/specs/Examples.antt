@@ -3,7 +3,7 @@ use Rattle.std.specs.Prelude.{ℕ, List, [], ◌∷◌, replicate, set, codes}
 use Rattle.byte_fields.specs.declared.parts.Row.{Row}
 use Rattle.map_model.specs.SortedMap.{Bytes}
 use Rattle.entry_model.specs.Entries.{Entry, put_entry, del_entry}
-use Rattle.block_model.specs.Block.{block_bytes}
+use Rattle.block_model.specs.OldBlock.{old_block_bytes}
 use Rattle.block_model.specs.Index.{Index, index_bytes}
 
 -- a with the value b
@@ -24,7 +24,7 @@ a_and_ab = a_b ∷ no_ab ∷ []
 
 -- the block of both, with another byte at a place
 unfoldable pub broken : ℕ → ℕ → Bytes
-broken place byte = set (block_bytes a_and_ab) place byte
+broken place byte = set (old_block_bytes a_and_ab) place byte
 
 -- with another byte at two places
 unfoldable pub broken_twice : ℕ → ℕ → ℕ → ℕ → Bytes

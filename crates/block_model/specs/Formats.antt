@@ -2,7 +2,7 @@
 -- prefixes spell of a key only what it has beyond the key before.
 use Rattle.std.specs.Prelude.{ℕ, zero, suc, ◌+◌, ◌/◌, ◌*◌, ◌%◌, ◌==◌, Bool, List, [], ◌∷◌, ◌++◌, take, drop, slice_index, Option, Some, None, if◌then◌else◌}
 use Rattle.byteorder.specs.Endian.{little_number}
-use Rattle.key_base.specs.Limits.{max_logged_value_bytes, restart_entries}
+use Rattle.key_base.specs.Limits.{max_logged_value_bytes, max_value_bytes, restart_entries}
 use Rattle.key_base.specs.Prefixes.{alike}
 use Rattle.map_model.specs.SortedMap.{Bytes}
 use Rattle.entry_model.specs.Entries.{Entry, entry_of}
@@ -20,10 +20,14 @@ abbrev pub format_byte : Format → ℕ
 format_byte Old = 0
 format_byte Prefixed = 2
 
+-- the header: the length that is used, how many entries, and the format in three bytes
+abbrev pub header_widths : List ℕ
+header_widths = 4 ∷ 1 ∷ 3 ∷ []
+
 -- the bytes of the longest value
 abbrev pub most_value : Format → ℕ
 most_value Old = max_logged_value_bytes
-most_value Prefixed = 1048576
+most_value Prefixed = max_value_bytes
 
 -- ---- which entries are listed, and what the others share
 

@@ -1,7 +1,7 @@
 -- The bytes of a table's index: the least key, and for each block its pages, the sum of its bytes and its last key.
 use Rattle.std.specs.Prelude.{◌≡◌, ℕ, ◌≤◌, ◌<◌, ◌^◌, List, [], ◌∷◌, ◌++◌, length, map, flat_map, sum_by}
 use Rattle.std.specs.List.{AllByRecursion}
-use Rattle.key_base.specs.Limits.{max_old_block_pages, max_key_bytes}
+use Rattle.key_base.specs.Limits.{max_block_pages, max_key_bytes}
 use Rattle.map_model.specs.SortedMap.{Bytes}
 use Rattle.entry_model.specs.Entries.{Entry}
 use Rattle.byte_fields.specs.Fields.{fields}
@@ -54,7 +54,7 @@ row_pages rows = sum_by (λ row. row.pages) rows
 -- what a row has, and what an index has for so many pages of blocks
 pub record IsIndexRow (row : IndexRow) : Type 0 where
   pub some_pages : 1 ≤ row.pages
-  pub few_pages : row.pages ≤ max_old_block_pages
+  pub few_pages : row.pages ≤ max_block_pages
   pub sum : row.sum < 2 ^ 64
   pub some_key : 1 ≤ length row.last
   pub short_key : length row.last ≤ max_key_bytes

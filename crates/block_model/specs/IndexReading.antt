@@ -3,7 +3,7 @@ use Rattle.std.specs.Prelude.{ℕ, zero, suc, ◌+◌, nat_lt, ◌==◌, Bool, n
 use Rattle.std.specs.Option.{option_or}
 use Rattle.byteorder.specs.Endian.{little_number}
 use Rattle.map_model.specs.SortedMap.{Bytes}
-use Rattle.key_base.specs.Limits.{is_no_key_length, max_old_block_pages}
+use Rattle.key_base.specs.Limits.{is_no_key_length, max_block_pages}
 use Rattle.byte_fields.specs.Faults.{Fault, refuse}
 use Rattle.block_model.specs.Index.{Index, IndexRow, index_magic, row_pages}
 use Rattle.key_base.specs.ByteOrder.{is_before}
@@ -58,7 +58,7 @@ row_fault place test rest =
     refuse (nat_lt (length rest) 14 || nat_lt (length rest) (row_width_in rest)) (place + length rest) 1
     (refuse (is_no_key_length (last_length_in rest)) (place + 12) 4
     (refuse (not (test (last_in rest))) (place + 14) 5
-    (refuse (pages_in rest == 0 || nat_lt max_old_block_pages (pages_in rest)) place 6
+    (refuse (pages_in rest == 0 || nat_lt max_block_pages (pages_in rest)) place 6
     None)))
 
 -- row by row; behind the last, 7: bytes are left

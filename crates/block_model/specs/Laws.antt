@@ -1,15 +1,17 @@
 -- The laws of the formats: a table is cut into blocks, these have the lengths and pages that are counted, and whatever is
 -- written is read again, and whatever breaks no rule was written so.
-use Rattle.std.specs.Prelude.{◌≡◌, ℕ, ◌*◌, List, [], ◌∷◌, ◌++◌, length, flat_map, None}
+use Rattle.std.specs.Prelude.{◌≡◌, ◌≤◌, ℕ, ◌*◌, List, [], ◌∷◌, ◌++◌, length, flat_map, None}
 use Rattle.std.specs.List.{AllByRecursion}
 use Rattle.byte_fields.specs.Spelling.{IsBytes}
+use Rattle.key_base.specs.Limits.{max_block_pages}
 use Rattle.map_model.specs.SortedMap.{Bytes}
 use Rattle.entry_model.specs.Entries.{Entry}
-use Rattle.block_model.specs.Block.{IsBlock, IsTable, block_bytes, data_bytes}
+use Rattle.block_model.specs.Block.{IsBlock, IsTable, block_bytes, data_bytes, spelled_by}
 use Rattle.block_model.specs.BlockReading.{block_fault, block_in}
+use Rattle.block_model.specs.Formats.{Format, Prefixed, format_in}
 use Rattle.block_model.specs.Index.{Index, IsIndex, index_bytes, index_of}
 use Rattle.block_model.specs.IndexReading.{index_fault, index_in}
-use Rattle.block_model.specs.Pages.{page_bytes, block_pages, blocks_of, blocks_with, data_pages, index_length}
+use Rattle.block_model.specs.Pages.{block_pages, blocks_of, blocks_with, data_pages, index_length, page_bytes}
 
 abbrev pub joined : List (List Entry) → List Entry
 joined blocks = flat_map (λ block. block) blocks
@@ -22,9 +24,9 @@ BlocksAreTheEntries = (entries : List Entry) → joined (blocks_of entries) ≡ 
 abbrev pub BlocksGrow : Type 0
 BlocksGrow = (entries : List Entry) (entry : Entry) → blocks_of (entries ++ (entry ∷ [])) ≡ blocks_with (blocks_of entries) entry
 
--- the blocks of a table are blocks
+-- the blocks of a table are blocks of the format in which they are written
 abbrev pub BlocksAreSound : Type 0
-BlocksAreSound = (entries : List Entry) → IsTable entries → AllByRecursion IsBlock (blocks_of entries)
+BlocksAreSound = (entries : List Entry) → IsTable entries → AllByRecursion (IsBlock Prefixed) (blocks_of entries)
 
 -- a block takes the pages that are counted, and so do all blocks of a table
 abbrev pub BlockFillsItsPages : Type 0
@@ -32,6 +34,10 @@ BlockFillsItsPages = (block : List Entry) → length (block_bytes block) ≡ pag
 
 abbrev pub BlocksFillTheirPages : Type 0
 BlocksFillTheirPages = (entries : List Entry) → length (data_bytes entries) ≡ page_bytes * data_pages entries
+
+-- a block has a page or more, and no more than the largest
+abbrev pub BlockHasFewPages : Type 0
+BlockHasFewPages = (block : List Entry) → IsBlock Prefixed block → (1 ≤ block_pages block) × (block_pages block ≤ max_block_pages)
 
 -- an index is as long as is counted
 abbrev pub IndexHasItsLength : Type 0
@@ -43,7 +49,8 @@ IndexIsSound = (entries : List Entry) → IsTable entries → IsIndex (data_page
 
 -- what was written is read again
 abbrev pub BlockIsReadAgain : Type 0
-BlockIsReadAgain = (block : List Entry) → IsBlock block → (block_fault (block_bytes block) ≡ None) × (block_in (block_bytes block) ≡ block)
+BlockIsReadAgain =
+    (f : Format) (block : List Entry) → IsBlock f block → (block_fault (spelled_by f block) ≡ None) × (block_in (spelled_by f block) ≡ block)
 
 abbrev pub IndexIsReadAgain : Type 0
 IndexIsReadAgain =
@@ -51,7 +58,8 @@ IndexIsReadAgain =
 
 -- what breaks no rule was written so
 abbrev pub BlockWasWrittenSo : Type 0
-BlockWasWrittenSo = (bytes : Bytes) → IsBytes bytes → block_fault bytes ≡ None → IsBlock (block_in bytes) × (block_bytes (block_in bytes) ≡ bytes)
+BlockWasWrittenSo =
+    (bytes : Bytes) → IsBytes bytes → block_fault bytes ≡ None → IsBlock (format_in bytes) (block_in bytes) × (spelled_by (format_in bytes) (block_in bytes) ≡ bytes)
 
 abbrev pub IndexWasWrittenSo : Type 0
 IndexWasWrittenSo =

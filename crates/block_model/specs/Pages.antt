@@ -1,16 +1,22 @@
 -- How the entries of a table are cut into blocks, and how many bytes and pages its blocks and its index take.
-use Rattle.std.specs.Prelude.{ℕ, ◌+◌, ◌-◌, ◌/◌, nat_le, nat_lt, ◌&&◌, Bool, false, List, [], ◌∷◌, ◌++◌, length, fold, flat_map, sum_by, if◌then◌else◌}
+use Rattle.std.specs.Prelude.{ℕ, ◌+◌, ◌-◌, ◌*◌, ◌/◌, nat_le, nat_lt, ◌&&◌, Bool, false, List, [], ◌∷◌, ◌++◌, length, fold, replicate, sum_by, if◌then◌else◌}
 pub use Rattle.key_base.specs.Limits.{max_block_entries, page_bytes}
 use Rattle.map_model.specs.SortedMap.{Bytes}
-use Rattle.entry_model.specs.Entries.{Entry, body}
+use Rattle.entry_model.specs.Entries.{Entry}
+use Rattle.block_model.specs.Bodies.{entries_bytes}
+use Rattle.block_model.specs.Formats.{places_length}
 
 -- so many bytes in whole pages, rounded up
 unfoldable pub pages_for : ℕ → ℕ
 pages_for bytes = (bytes + (page_bytes - 1)) / page_bytes
 
--- the bytes of a block that are used: its header of eight bytes and its entries
+-- zero bytes to the end of the last page
+unfoldable pub padding : ℕ → List ℕ
+padding bytes = replicate (page_bytes * pages_for bytes - bytes) 0
+
+-- the bytes of a block that are used: its header of eight bytes, the places of its listed entries, and its entries
 unfoldable pub block_length : List Entry → ℕ
-block_length block = 8 + length (flat_map body block)
+block_length block = 8 + places_length (length block) + length (entries_bytes 0 [] block)
 
 unfoldable pub block_pages : List Entry → ℕ
 block_pages block = pages_for (block_length block)

@@ -3,20 +3,20 @@ use Rattle.std.specs.Prelude.{ℕ, ◌+◌, ◌/◌, ◌%◌, ◌-◌, suc, zero
 use Rattle.byteorder.specs.Endian.{little_bytes}
 use Rattle.map_model.specs.SortedMap.{Bytes}
 use Rattle.entry_model.specs.Entries.{Entry, del_entry}
-use Rattle.block_model.specs.Block.{block_bytes}
+use Rattle.block_model.specs.OldBlock.{old_block_bytes}
 use Rattle.block_model.specs.Examples.{a_b}
-use Rattle.block_model.specs.Prefixed.{prefixed_block_bytes}
+use Rattle.block_model.specs.Block.{block_bytes}
 
 -- the block of a with b, with another byte at a place, and at two places
 unfoldable pub changed_once : ℕ → ℕ → Bytes
-changed_once place byte = set (prefixed_block_bytes (a_b ∷ [])) place byte
+changed_once place byte = set (block_bytes (a_b ∷ [])) place byte
 
 unfoldable pub changed_twice : ℕ → ℕ → ℕ → ℕ → Bytes
 changed_twice place byte next other = set (changed_once place byte) next other
 
 -- the old block of a with b, which names the new format
 unfoldable pub old_as_new : Bytes
-old_as_new = set (block_bytes (a_b ∷ [])) 5 2
+old_as_new = set (old_block_bytes (a_b ∷ [])) 5 2
 
 -- a page of k000, of which nothing is there, and of another tombstone at 23, which shares so many bytes and has a rest
 unfoldable pub after_k000 : ℕ → Bytes → Bytes
@@ -31,4 +31,4 @@ tombstones from (suc more) = del_entry (codes "k0" ++ ((48 + from / 10) ∷ (48 
 
 -- the block of seventeen of them, k000 to k016, with another byte at a place
 unfoldable pub changed_seventeen : ℕ → ℕ → Bytes
-changed_seventeen place byte = set (prefixed_block_bytes (tombstones 0 17)) place byte
+changed_seventeen place byte = set (block_bytes (tombstones 0 17)) place byte

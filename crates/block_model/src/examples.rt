@@ -1,6 +1,6 @@
 //! The definitions, shown by entries, blocks and indexes whose bytes and faults are known. Each computes.
 ghost use Rattle.std.specs.Prelude.{◌≡◌, [], ◌∷◌, length, map, replicate, ◌++◌, take, drop, set, Some, None, codes};
-ghost use Rattle.block_model.specs.Block.{block_bytes};
+ghost use Rattle.block_model.specs.OldBlock.{old_block_bytes};
 ghost use Rattle.block_model.specs.BlockReading.{block_fault, block_in};
 ghost use Rattle.block_model.specs.Index.{index_bytes, index_of};
 ghost use Rattle.block_model.specs.IndexReading.{index_fault, index_in};
@@ -16,16 +16,16 @@ pub fn whole_pages()
     ensures one { pages_for 1 ≡ 1 }
     ensures full { pages_for 4096 ≡ 1 }
     ensures one_byte_more { pages_for 4097 ≡ 2 }
-    ensures largest { pages_for 66575 ≡ 17 }
+    ensures largest { pages_for 1049619 ≡ 257 }
 {}
 
 /// Small entries share a block: a with a value, and a tombstone of ab.
-#[tactic(auto, unfolding(crate::specs::Pages::pages_for, crate::specs::Pages::block_length, crate::specs::Pages::block_pages, crate::specs::Pages::blocks_of, crate::specs::Pages::data_pages, crate::specs::Pages::index_length))]
+#[tactic(auto, unfolding(crate::specs::Pages::pages_for, crate::specs::Bodies::entries_bytes, crate::specs::Pages::block_length, crate::specs::Pages::block_pages, crate::specs::Pages::blocks_of, crate::specs::Pages::data_pages, crate::specs::Pages::index_length))]
 pub fn small_blocks()
     ensures one { blocks_of (a_b ∷ []) ≡ (a_b ∷ []) ∷ [] }
-    ensures its_length { block_length (a_b ∷ []) ≡ 17 }
+    ensures its_length { block_length (a_b ∷ []) ≡ 21 }
     ensures two { blocks_of (a_b ∷ no_ab ∷ []) ≡ (a_b ∷ no_ab ∷ []) ∷ [] }
-    ensures their_length { block_length (a_b ∷ no_ab ∷ []) ≡ 26 }
+    ensures their_length { block_length (a_b ∷ no_ab ∷ []) ≡ 31 }
     ensures their_page { data_pages (a_b ∷ no_ab ∷ []) ≡ 1 }
     ensures least { first_key (a_b ∷ no_ab ∷ []) ≡ 0x61 ∷ [] }
     ensures last { last_key (a_b ∷ no_ab ∷ []) ≡ 0x61 ∷ 0x62 ∷ [] }
@@ -34,15 +34,11 @@ pub fn small_blocks()
     ensures no_pages { data_pages [] ≡ 0 }
 {}
 
-/// An entry that needs more than a page stands alone, and one that does not fit any more begins the next block.
-#[tactic(auto, unfolding(crate::specs::Pages::pages_for, crate::specs::Pages::block_length, crate::specs::Pages::block_pages, crate::specs::Pages::blocks_of, crate::specs::Pages::data_pages))]
-pub fn full_blocks()
-    ensures just_a_page { map length (blocks_of (wide 1 2036 ∷ wide 2 2036 ∷ [])) ≡ 2 ∷ [] }
-    ensures one_byte_more { map length (blocks_of (wide 1 2036 ∷ wide 2 2037 ∷ [])) ≡ 1 ∷ 1 ∷ [] }
-    ensures the_large_one_alone { map length (blocks_of (a_b ∷ wide 0x62 4200 ∷ wide 0x63 1 ∷ [])) ≡ 1 ∷ 1 ∷ 1 ∷ [] }
+/// An entry that needs more than a page stands alone.
+#[tactic(auto, unfolding(crate::specs::Pages::pages_for, crate::specs::Bodies::entries_bytes, crate::specs::Pages::block_length, crate::specs::Pages::block_pages, crate::specs::Pages::blocks_of, crate::specs::Pages::data_pages))]
+pub fn large_blocks()
     ensures its_pages { map block_pages (blocks_of (a_b ∷ wide 0x62 4200 ∷ wide 0x63 1 ∷ [])) ≡ 1 ∷ 2 ∷ 1 ∷ [] }
     ensures all_pages { data_pages (a_b ∷ wide 0x62 4200 ∷ wide 0x63 1 ∷ []) ≡ 4 }
-    ensures at_most_255 { map length (blocks_of (replicate 256 a_b)) ≡ 255 ∷ 1 ∷ [] }
 {}
 
 /// Where the parts of a table stand, from the first page of tables on.
@@ -54,30 +50,30 @@ pub fn parts_of_a_table()
     ensures behind { end_page ten_pages ≡ 214 }
 {}
 
-/// The bytes of the blocks of a with the value b, and of it with a tombstone of ab.
-#[tactic(auto, unfolding(crate::specs::Pages::pages_for, crate::specs::Pages::block_length, crate::specs::Block::block_bytes, crate::specs::Block::header_bytes, crate::specs::Block::padding))]
-pub fn small_block_bytes()
-    ensures one { take 17 (block_bytes (a_b ∷ []))
+/// The bytes of blocks of the first format: of a with the value b, and of it with a tombstone of ab.
+#[tactic(auto, unfolding(crate::specs::Pages::pages_for, crate::specs::Pages::padding, crate::specs::OldBlock::old_block_length, crate::specs::OldBlock::old_header_bytes, crate::specs::OldBlock::old_block_bytes))]
+pub fn old_block_bytes_are()
+    ensures one { take 17 (old_block_bytes (a_b ∷ []))
         ≡ 0x11 ∷ 0 ∷ 0 ∷ 0 ∷ 1 ∷ 0 ∷ 0 ∷ 0 ∷ 1 ∷ 1 ∷ 0 ∷ 1 ∷ 0 ∷ 0 ∷ 0 ∷ 0x61 ∷ 0x62 ∷ [] }
-    ensures a_page { length (block_bytes (a_b ∷ [])) ≡ 4096 }
-    ensures zeros { drop 17 (block_bytes (a_b ∷ [])) ≡ replicate 4079 0 }
-    ensures the_tombstone { take 9 (drop 17 (block_bytes a_and_ab)) ≡ 2 ∷ 2 ∷ 0 ∷ 0 ∷ 0 ∷ 0 ∷ 0 ∷ 0x61 ∷ 0x62 ∷ [] }
+    ensures a_page { length (old_block_bytes (a_b ∷ [])) ≡ 4096 }
+    ensures zeros { drop 17 (old_block_bytes (a_b ∷ [])) ≡ replicate 4079 0 }
+    ensures the_tombstone { take 9 (drop 17 (old_block_bytes a_and_ab)) ≡ 2 ∷ 2 ∷ 0 ∷ 0 ∷ 0 ∷ 0 ∷ 0 ∷ 0x61 ∷ 0x62 ∷ [] }
 {}
 
 /// What is read from them.
-#[tactic(auto, unfolding(crate::specs::Pages::pages_for, crate::specs::Pages::block_length, crate::specs::Block::block_bytes, crate::specs::Block::header_bytes, crate::specs::Block::padding, entry_model::specs::Reading::width_in, entry_model::specs::Reading::key_in, entry_model::specs::Reading::entry_in, crate::specs::BlockReading::entry_fault, crate::specs::BlockReading::entries_fault, crate::specs::BlockReading::entries_in, crate::specs::BlockReading::entries_part, crate::specs::BlockReading::header_fault, crate::specs::BlockReading::tail_fault, crate::specs::BlockReading::block_fault, crate::specs::BlockReading::block_in))]
-pub fn small_block_is_read()
-    ensures no_fault { block_fault (block_bytes a_and_ab) ≡ None }
-    ensures entries { block_in (block_bytes a_and_ab) ≡ a_and_ab }
+#[tactic(auto, unfolding(crate::specs::Pages::pages_for, crate::specs::Pages::padding, crate::specs::OldBlock::old_block_length, crate::specs::OldBlock::old_header_bytes, crate::specs::OldBlock::old_block_bytes, crate::specs::Formats::width_by, crate::specs::Formats::key_by, crate::specs::Formats::value_by, crate::specs::Formats::entries_by, crate::specs::BlockReading::tail_fault, crate::specs::BlockReading::entry_fault_by, crate::specs::BlockReading::entries_fault_by, crate::specs::BlockReading::header_fault_by, crate::specs::BlockReading::entries_part_by, crate::specs::BlockReading::block_fault_by, crate::specs::BlockReading::block_in_by))]
+pub fn old_block_is_read()
+    ensures no_fault { block_fault (old_block_bytes a_and_ab) ≡ None }
+    ensures entries { block_in (old_block_bytes a_and_ab) ≡ a_and_ab }
 {}
 
 /// Where one byte of the block is another one, or its pages are others.
-#[tactic(auto, unfolding(crate::specs::Pages::pages_for, crate::specs::Pages::block_length, crate::specs::Block::block_bytes, crate::specs::Block::header_bytes, crate::specs::Block::padding, entry_model::specs::Reading::width_in, entry_model::specs::Reading::key_in, entry_model::specs::Reading::entry_in, crate::specs::BlockReading::entry_fault, crate::specs::BlockReading::entries_fault, crate::specs::BlockReading::entries_in, crate::specs::BlockReading::entries_part, crate::specs::BlockReading::header_fault, crate::specs::BlockReading::tail_fault, crate::specs::BlockReading::block_fault, crate::specs::BlockReading::block_in, crate::specs::Examples::broken))]
-pub fn broken_blocks()
+#[tactic(auto, unfolding(crate::specs::Pages::pages_for, crate::specs::Pages::padding, crate::specs::OldBlock::old_block_length, crate::specs::OldBlock::old_header_bytes, crate::specs::OldBlock::old_block_bytes, crate::specs::Formats::width_by, crate::specs::Formats::key_by, crate::specs::Formats::value_by, crate::specs::Formats::entries_by, crate::specs::BlockReading::tail_fault, crate::specs::BlockReading::entry_fault_by, crate::specs::BlockReading::entries_fault_by, crate::specs::BlockReading::header_fault_by, crate::specs::BlockReading::entries_part_by, crate::specs::BlockReading::block_fault_by, crate::specs::BlockReading::block_in_by, crate::specs::Examples::broken))]
+pub fn broken_old_blocks()
     ensures fewer_than_eight_bytes { block_fault (0x11 ∷ 0 ∷ 0 ∷ []) ≡ Some (fault 0 1) }
     ensures length_under_16 { block_fault (broken 0 15) ≡ Some (fault 0 1) }
-    ensures a_page_too_many { block_fault (block_bytes a_and_ab ++ replicate 4096 0) ≡ Some (fault 0 1) }
-    ensures a_part_of_a_page { block_fault (take 20 (block_bytes a_and_ab)) ≡ Some (fault 0 1) }
+    ensures a_page_too_many { block_fault (old_block_bytes a_and_ab ++ replicate 4096 0) ≡ Some (fault 0 1) }
+    ensures a_part_of_a_page { block_fault (take 20 (old_block_bytes a_and_ab)) ≡ Some (fault 0 1) }
     ensures no_entry { block_fault (broken 4 0) ≡ Some (fault 4 2) }
     ensures two_in_two_pages { block_fault (broken 1 0x10 ++ replicate 4096 0) ≡ Some (fault 4 2) }
     ensures a_byte_of_the_header { block_fault (broken 6 1) ≡ Some (fault 6 2) }
@@ -94,8 +90,8 @@ pub fn broken_blocks()
 {}
 
 /// Where two rules are broken: the first of them in their order, entry by entry. Keys that are equal do not rise.
-#[tactic(auto, unfolding(crate::specs::Pages::pages_for, crate::specs::Pages::block_length, crate::specs::Block::block_bytes, crate::specs::Block::header_bytes, crate::specs::Block::padding, entry_model::specs::Reading::width_in, entry_model::specs::Reading::key_in, entry_model::specs::Reading::entry_in, crate::specs::BlockReading::entry_fault, crate::specs::BlockReading::entries_fault, crate::specs::BlockReading::entries_in, crate::specs::BlockReading::entries_part, crate::specs::BlockReading::header_fault, crate::specs::BlockReading::tail_fault, crate::specs::BlockReading::block_fault, crate::specs::BlockReading::block_in, crate::specs::Examples::broken, crate::specs::Examples::broken_twice))]
-pub fn twice_broken_blocks()
+#[tactic(auto, unfolding(crate::specs::Pages::pages_for, crate::specs::Pages::padding, crate::specs::OldBlock::old_block_length, crate::specs::OldBlock::old_header_bytes, crate::specs::OldBlock::old_block_bytes, crate::specs::Formats::width_by, crate::specs::Formats::key_by, crate::specs::Formats::value_by, crate::specs::Formats::entries_by, crate::specs::BlockReading::tail_fault, crate::specs::BlockReading::entry_fault_by, crate::specs::BlockReading::entries_fault_by, crate::specs::BlockReading::header_fault_by, crate::specs::BlockReading::entries_part_by, crate::specs::BlockReading::block_fault_by, crate::specs::BlockReading::block_in_by, crate::specs::Examples::broken, crate::specs::Examples::broken_twice))]
+pub fn twice_broken_old_blocks()
     ensures length_then_count { block_fault (broken_twice 0 15 4 0) ≡ Some (fault 0 1) }
     ensures zero_then_cut { block_fault (broken_twice 6 1 0 20) ≡ Some (fault 6 2) }
     ensures cut_then_kind { block_fault (broken_twice 0 20 17 3) ≡ Some (fault 17 3) }
@@ -105,16 +101,16 @@ pub fn twice_broken_blocks()
     ensures key_then_bytes_left { block_fault (broken_twice 0 27 24 0x60) ≡ Some (fault 17 6) }
     ensures bytes_left_then_tail { block_fault (broken_twice 4 1 4095 7) ≡ Some (fault 17 7) }
     ensures the_first_entry { block_fault (broken_twice 13 2 17 3) ≡ Some (fault 8 5) }
-    ensures equal_keys { block_fault (block_bytes (a_b ∷ a_b ∷ [])) ≡ Some (fault 17 6) }
+    ensures equal_keys { block_fault (old_block_bytes (a_b ∷ a_b ∷ [])) ≡ Some (fault 17 6) }
 {}
 
 /// The index of the block with a and ab.
-#[tactic(auto, unfolding(crate::specs::Pages::pages_for, crate::specs::Pages::block_length, crate::specs::Pages::block_pages, crate::specs::Pages::blocks_of, crate::specs::Block::block_bytes, crate::specs::Block::header_bytes, crate::specs::Block::padding, crate::specs::Index::index_of, crate::specs::Index::index_row_of, crate::specs::Index::index_bytes, crate::specs::Index::index_head_bytes, crate::specs::Index::index_row_bytes))]
+#[tactic(auto, unfolding(crate::specs::Pages::pages_for, crate::specs::Pages::padding, crate::specs::Bodies::entries_bytes, crate::specs::Bodies::listed_places, crate::specs::Pages::block_length, crate::specs::Pages::block_pages, crate::specs::Pages::blocks_of, crate::specs::Block::list_bytes, crate::specs::Block::block_bytes, crate::specs::Block::header_bytes, crate::specs::Index::index_of, crate::specs::Index::index_row_of, crate::specs::Index::index_bytes, crate::specs::Index::index_head_bytes, crate::specs::Index::index_row_bytes))]
 pub fn small_index_bytes()
     ensures { index_bytes (index_of a_and_ab)
         ≡ 0x53 ∷ 0x52 ∷ 0x46 ∷ 0x49 ∷ 1 ∷ 0 ∷ 0 ∷ 0 ∷ 1 ∷ 0 ∷ 0x61
         ∷ 1 ∷ 0 ∷ 0 ∷ 0
-        ∷ 0xD2 ∷ 0xE6 ∷ 0x56 ∷ 0xD0 ∷ 0x62 ∷ 0xCC ∷ 0xE3 ∷ 0xC5
+        ∷ 0x4C ∷ 0x37 ∷ 0xB1 ∷ 0xA5 ∷ 0xC5 ∷ 0xC5 ∷ 0x32 ∷ 0x31
         ∷ 2 ∷ 0 ∷ 0x61 ∷ 0x62 ∷ [] }
 {}
 
@@ -139,7 +135,7 @@ pub fn broken_indexes()
     ensures first_below_the_least { index_fault 3 (broken_index 25 0x60) ≡ Some (fault 25 5) }
     ensures last_keys_fall { index_fault 3 (broken_index 40 0x61) ≡ Some (fault 40 5) }
     ensures no_pages { index_fault 3 (broken_index 11 0) ≡ Some (fault 11 6) }
-    ensures many_pages { index_fault 3 (broken_index 26 18) ≡ Some (fault 26 6) }
+    ensures many_pages { index_fault 3 (set (broken_index 26 2) 27 1) ≡ Some (fault 26 6) }
     ensures bytes_are_left { index_fault 3 (index_bytes two_blocks ++ 0 ∷ []) ≡ Some (fault 42 7) }
     ensures other_pages { index_fault 4 (index_bytes two_blocks) ≡ Some (fault 4 8) }
 {}
@@ -153,7 +149,7 @@ pub fn twice_broken_indexes()
     ensures no_blocks_then_no_key { index_fault 3 (broken_index_twice 4 0 8 0) ≡ Some (fault 4 3) }
     ensures length_then_pages { index_fault 3 (broken_index_twice 23 0 11 0) ≡ Some (fault 23 4) }
     ensures key_then_pages { index_fault 3 (broken_index_twice 25 0x60 11 0) ≡ Some (fault 25 5) }
-    ensures pages_then_bytes_left { index_fault 3 (broken_index 26 18 ++ 0 ∷ []) ≡ Some (fault 26 6) }
+    ensures pages_then_bytes_left { index_fault 3 (set (broken_index 26 2) 27 1 ++ 0 ∷ []) ≡ Some (fault 26 6) }
     ensures bytes_left_then_all_pages { index_fault 4 (index_bytes two_blocks ++ 0 ∷ []) ≡ Some (fault 42 7) }
     ensures the_first_row { index_fault 3 (broken_index_twice 11 0 40 0x61) ≡ Some (fault 11 6) }
     ensures equal_keys { index_fault 3 (take 41 (broken_index 38 1)) ≡ Some (fault 40 5) }

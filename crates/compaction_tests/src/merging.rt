@@ -1,6 +1,6 @@
 //! Merges of tables, in merge slices.
 ghost use Rattle.std.specs.Prelude.{IfOk};
-ghost use Rattle.merge_rows.specs.Steps.{AreNumbersIn, numbers};
+ghost use Rattle.merge_rows.specs.Steps.{AreWalksIn, stands};
 
 use crate::made::{Named, add, placed, tables_of};
 use disk_mem::MemDisk;
@@ -35,7 +35,7 @@ fn extents_of(alloc: Global, tables: &Tables<PlainFilter>) -> Result<Extents, Fa
 
 // The merge of what is chosen of some tables.
 fn chosen(alloc: Global, tables: &Tables<PlainFilter>) -> Result<Merge<'static>, Fail>
-    ensures { IfOk result (λ job. AreNumbersIn tables.now.tables (numbers job.merge.walks)) }
+    ensures { IfOk result (λ job. AreWalksIn tables.now.tables (stands job.merge.walks)) }
 {
     if tables.len() > MAX_TABLES {
         return Err(Fail::from("too many"));
@@ -48,7 +48,7 @@ fn chosen(alloc: Global, tables: &Tables<PlainFilter>) -> Result<Merge<'static>,
 
 // The same in a box.
 fn begun(alloc: Global, tables: &Tables<PlainFilter>) -> Result<Box<Merge<'static>>, Fail>
-    ensures { IfOk result (λ job. AreNumbersIn tables.now.tables (numbers job.value.merge.walks)) }
+    ensures { IfOk result (λ job. AreWalksIn tables.now.tables (stands job.value.merge.walks)) }
 {
     let job = chosen(alloc, tables)?;
     Ok(Box::new(alloc, job)?)
@@ -62,7 +62,7 @@ fn slices(
     extents: &mut Extents,
     blocks: u32,
 ) -> (u64, Answer)
-    requires { AreNumbersIn tables.now.tables (numbers job.old.merge.walks) }
+    requires { AreWalksIn tables.now.tables (stands job.old.merge.walks) }
 {
     for count in 0..10_000 {
         let answer = job.slice(disk, tables, extents, blocks.max(1));

@@ -2,10 +2,10 @@
 ghost use Rattle.std.specs.Prelude.{◌≡◌, ◌↔◌, IfOk, IsTrue, Some};
 ghost use Rattle.std.specs.Option.{option_map};
 ghost use Rattle.std.specs.Box.{boxed_slice_items};
-ghost use Rattle.entry_model.specs.Entries.{IsEntry, entry_of};
+ghost use Rattle.entry_model.specs.Entries.{IsEntry, IsLogged, bytes_of, entry_of};
 ghost use Rattle.map_model.specs.SortedMap.{byte_order};
 
-use key_base::{MAX_KEY_BYTES, MAX_LOGGED_VALUE_BYTES};
+use key_base::{MAX_KEY_BYTES, MAX_LOGGED_VALUE_BYTES, MAX_VALUE_BYTES};
 use std::alloc::{AllocError, Global};
 use std::boxed::BoxedSlice;
 use std::cmp::Ordering;
@@ -70,15 +70,28 @@ impl Entry {
         }
     }
 
-    /// Whether the key has 1 to 1,024 bytes and the value at most 65,536.
+    /// Whether the key has 1 to 1,024 bytes and the value at most 1,048,576.
     pub fn is_sound(&self) -> bool
         ensures { IsTrue result ↔ IsEntry self.now }
     {
-        let value = match &self.value {
+        keeps_limits(self.key(), self.value_bytes())
+    }
+
+    /// Whether a log takes it: it is sound, and its value has at most 65,536 bytes.
+    pub fn is_logged(&self) -> bool
+        ensures { IsTrue result ↔ IsLogged self.now }
+    {
+        self.is_sound() && self.value_bytes().len() <= MAX_LOGGED_VALUE_BYTES
+    }
+
+    // The bytes of its value, none of a tombstone.
+    fn value_bytes(&self) -> &[u8]
+        ensures { result.now ≡ bytes_of self.now.value }
+    {
+        match &self.value {
             Some(bytes) => bytes.as_slice(),
             None => &[],
-        };
-        keeps_limits(self.key.as_slice(), value)
+        }
     }
 
     /// Its key and its value, moved.
@@ -102,5 +115,5 @@ impl Entry {
 fn keeps_limits(key: &[u8], value: &[u8]) -> bool
     ensures { IsTrue result ↔ IsEntry (entry_of key.now (Some value.now)) }
 {
-    !key.is_empty() && key.len() <= MAX_KEY_BYTES && value.len() <= MAX_LOGGED_VALUE_BYTES
+    !key.is_empty() && key.len() <= MAX_KEY_BYTES && value.len() <= MAX_VALUE_BYTES
 }

@@ -8,7 +8,7 @@ use Rattle.key_base.specs.Limits.{max_key_bytes, max_logged_value_bytes}
 use Rattle.byte_fields.specs.Spelling.{IsBytes}
 use Rattle.byte_fields.proofs.NumberLemmas.{IsBytes-drop, IsBytes-take, number_again, number_back}
 use Rattle.map_model.specs.SortedMap.{Bytes}
-use Rattle.entry_model.specs.Entries.{Entry, kind_of, bytes_of, body, IsEntry}
+use Rattle.entry_model.specs.Entries.{Entry, kind_of, bytes_of, body, IsEntry, IsLogged}
 use Rattle.entry_model.specs.Reading.{kind_in, key_length_in, value_length_in, width_in, key_in, entry_in}
 
 pub body_size : (entry : Entry) → length (body entry) ≡ 7 + length entry.key + length (bytes_of entry.value)
@@ -101,14 +101,17 @@ module _ (bytes : Bytes) (is_bytes : IsBytes bytes) (rules : KeepsLimits bytes) 
   value_size : length (bytes_of (entry_in bytes).value) ≡ value_length_in bytes
   value_size = ap length value_is ∙ length-take-le (value_length_in bytes) (drop (7 + key_length_in bytes) bytes) (omega (arith, rules.room, length-drop (7 + key_length_in bytes) bytes))
 
-  pub sound_read : IsEntry (entry_in bytes)
+  pub sound_read : IsLogged (entry_in bytes)
   unfolding entry_in key_in
   sound_read = record {
-    some_key = omega (arith, key_size, rules.some_key);
-    short_key = omega (arith, key_size, rules.short_key);
-    short_value = omega (arith, value_size, rules.short_value);
-    key_bytes = IsBytes-take (key_length_in bytes) (drop 7 bytes) (IsBytes-drop 7 bytes is_bytes);
-    value_bytes = subst IsBytes (sym value_is) (IsBytes-take (value_length_in bytes) (drop (7 + key_length_in bytes) bytes) (IsBytes-drop (7 + key_length_in bytes) bytes is_bytes));
+    sound = record {
+      some_key = omega (arith, key_size, rules.some_key);
+      short_key = omega (arith, key_size, rules.short_key);
+      short_value = omega (arith, value_size, rules.short_value);
+      key_bytes = IsBytes-take (key_length_in bytes) (drop 7 bytes) (IsBytes-drop 7 bytes is_bytes);
+      value_bytes = subst IsBytes (sym value_is) (IsBytes-take (value_length_in bytes) (drop (7 + key_length_in bytes) bytes) (IsBytes-drop (7 + key_length_in bytes) bytes is_bytes));
+    };
+    short = omega (arith, value_size, rules.short_value);
   }
 
   pub size_read : length (body (entry_in bytes)) ≡ width_in bytes

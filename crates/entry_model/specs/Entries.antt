@@ -3,7 +3,7 @@ use Rattle.std.specs.Prelude.{◌≤◌, ℕ, ◌+◌, ◌-◌, List, [], ◌∷
 use Rattle.std.specs.Option.{option_or}
 use Rattle.byteorder.specs.Endian.{little_bytes}
 pub use Rattle.key_base.specs.Limits.{entry_head_bytes}
-use Rattle.key_base.specs.Limits.{max_key_bytes, max_logged_value_bytes, log_bytes}
+use Rattle.key_base.specs.Limits.{max_key_bytes, max_value_bytes, max_logged_value_bytes, log_bytes}
 use Rattle.byte_fields.specs.Spelling.{IsBytes}
 use Rattle.map_model.specs.SortedMap.{Bytes, Map, put, del}
 
@@ -57,9 +57,14 @@ bytes_of None = []
 pub record IsEntry (entry : Entry) : Type 0 where
   pub some_key : 1 ≤ length entry.key
   pub short_key : length entry.key ≤ max_key_bytes
-  pub short_value : length (bytes_of entry.value) ≤ max_logged_value_bytes
+  pub short_value : length (bytes_of entry.value) ≤ max_value_bytes
   pub key_bytes : IsBytes entry.key
   pub value_bytes : IsBytes (bytes_of entry.value)
+
+-- one whose value the log takes, and a block of the first format
+pub record IsLogged (entry : Entry) : Type 0 where
+  pub sound : IsEntry entry
+  pub short : length (bytes_of entry.value) ≤ max_logged_value_bytes
 
 -- ---- bytes
 

@@ -4,7 +4,7 @@ ghost use Rattle.disk_trait.specs.Fault.{IsWriteThroughFault};
 ghost use Rattle.disk_trait.specs.Image.{overwritten};
 ghost use Rattle.disk_trait.specs.World.{Now, Leads, ReadMoves, WriteMoves, Rose};
 ghost use Rattle.key_base.specs.Limits.{log_bytes, max_key_bytes, max_logged_value_bytes};
-ghost use Rattle.entry_model.specs.Entries.{filled, need, body_length, record_bytes, entry_of, IsEntry};
+ghost use Rattle.entry_model.specs.Entries.{filled, need, body_length, record_bytes, entry_of, IsLogged};
 ghost use Rattle.entry_model.specs.Entries as model;
 ghost use Rattle.log_model.specs.Area.{Position, LogIs, WithOrWithout, IsNextRecord, start_of, area_in};
 ghost use Rattle.gate_log.specs.Faults.{IsAppendFault, IsShapeIn, HasReadCause, IsNoShape};
@@ -77,7 +77,7 @@ impl Log {
         entries: &[Entry],
     ) -> Result<Log, DiskFault>
         requires area { area ≤ 1 }
-        requires sound { AllByRecursion IsEntry entries.now }
+        requires sound { AllByRecursion IsLogged entries.now }
         requires fits { filled entries.now < log_bytes }
         requires room { body_length max_key_bytes max_logged_value_bytes + 1 ≤ length buf.old }
         ensures log { IfOk result (λ log. log ≡ record { area = area; filled = filled entries.now }) }
@@ -105,7 +105,7 @@ impl Log {
         requires { area ≤ 1 }
         ensures log { IfOk result (λ found. found.0 ≡ record { area = area; filled = filled found.1.items }) }
         ensures entries { IsTrue D.tells → IfOk result (λ found. LogIs area found.1.items (D.world disk.old).seen.held) }
-        ensures sound { IfOk result (λ found. AllByRecursion IsEntry found.1.items) }
+        ensures sound { IfOk result (λ found. AllByRecursion IsLogged found.1.items) }
         ensures within { IfOk result (λ found. filled found.1.items < log_bytes) }
         ensures exact { (entries : List model.Entry) → IsTrue D.tells → LogIs area entries (D.world disk.old).seen.held → MatchResult result (λ found. found.1.items ≡ entries) IsNoShape }
         ensures shape { IsTrue D.tells → IfErr result (IsShapeIn area (D.world disk.old).seen.held) }
@@ -150,7 +150,7 @@ impl Log {
         key: &[u8],
         value: Option<&[u8]>,
     ) -> Result<(), DiskFault>
-        requires sound { IsEntry (entry_of key.now (value_of value)) }
+        requires sound { IsLogged (entry_of key.now (value_of value)) }
         requires fits { self.old.filled + need (entry_of key.now (value_of value)) ≤ log_bytes }
         requires room { need (entry_of key.now (value_of value)) ≤ length buf.old + 1 }
         ensures crash { (entries : List model.Entry) → IsTrue D.tells → self.old.filled ≡ filled entries
@@ -174,7 +174,7 @@ impl Log {
 
     // Adds an entry that was read from a log.
     fn add<D: Disk>(&mut self, disk: &mut D, buf: &mut [u8], entry: &Entry) -> Result<(), DiskFault>
-        requires sound { IsEntry entry.now }
+        requires sound { IsLogged entry.now }
         requires fits { self.old.filled + need entry.now ≤ log_bytes }
         requires room { body_length max_key_bytes max_logged_value_bytes + 1 ≤ length buf.old }
         ensures crash { (entries : List model.Entry) → IsTrue D.tells → self.old.filled ≡ filled entries

@@ -1,6 +1,6 @@
 //! The bytes of a record.
 ghost use Rattle.std.specs.Prelude.{◌≡◌, ◌+◌, ◌≤◌, ◌++◌, [], ◌∷◌, length, take};
-ghost use Rattle.entry_model.specs.Entries.{IsEntry, body, bytes_of, entry_of, kind_of, need};
+ghost use Rattle.entry_model.specs.Entries.{IsLogged, body, bytes_of, entry_of, kind_of, need};
 ghost use Rattle.gate_log.specs.Values.{value_of};
 
 use crate::kind::Kind;
@@ -55,7 +55,7 @@ fn kind(value: Option<&[u8]>) -> u8
 
 /// The bytes that a record takes of its area: its gate, its body and the gate behind it.
 pub fn record_need(key: &[u8], value: Option<&[u8]>) -> usize
-    requires { IsEntry (entry_of key.now (value_of value)) }
+    requires { IsLogged (entry_of key.now (value_of value)) }
     ensures { result ≡ need (entry_of key.now (value_of value.entry)) }
 {
     GATE_BYTES + body_length(key.len(), value_bytes(value).len()) + GATE_BYTES
@@ -63,7 +63,7 @@ pub fn record_need(key: &[u8], value: Option<&[u8]>) -> usize
 
 /// Lays out an entry's body with a closed gate behind it, and answers how many bytes they are.
 pub(crate) fn put_record(buf: &mut [u8], key: &[u8], value: Option<&[u8]>) -> usize
-    requires sound { IsEntry (entry_of key.now (value_of value)) }
+    requires sound { IsLogged (entry_of key.now (value_of value)) }
     requires room { need (entry_of key.now (value_of value)) ≤ length buf.old + 1 }
     ensures end { result + 1 ≡ need (entry_of key.now (value_of value.entry)) }
     ensures bytes { take result buf.new ≡ body (entry_of key.now (value_of value.entry)) ++ 0 ∷ [] }

@@ -16,20 +16,24 @@ use Rattle.filter_model.proofs.Fronts.{same-true}
 use Rattle.filter_model.specs.Leaves.{Leaf, leaves_of}
 use Rattle.map_model.specs.SortedMap.{Bytes}
 use Rattle.entry_model.specs.Entries.{Entry, IsEntry, keys_of}
-use Rattle.block_model.specs.Block.{IsBlock}
-use Rattle.block_model.specs.Index.{Index, IndexRow, IsIndex, index_bytes, index_row_of}
+use Rattle.block_model.specs.Block.{IsEntryOf}
+use Rattle.block_model.specs.BlockReading.{block_in}
+use Rattle.block_model.specs.Formats.{Format, Old, Prefixed}
+use Rattle.block_model.specs.Index.{Index, IndexRow, IsIndex, index_bytes}
 use Rattle.block_model.specs.IndexReading.{index_fault, index_in}
 use Rattle.block_model.specs.Laws.{joined}
 use Rattle.block_model.specs.Order.{Follow, is_any}
-use Rattle.block_model.specs.Pages.{block_pages, first_key, pages_for}
+use Rattle.block_model.specs.Pages.{first_key, pages_for}
 use Rattle.block_model.specs.Places.{byte_of_page, filter_page, index_page}
 use Rattle.block_model.proofs.IndexesRead.{index_written}
 use Rattle.table_model.specs.Damage.{IsOfBytes, IsSoundFilter, block_damage, filter_part, index_damage, index_part}
-use Rattle.table_model.specs.Images.{IsTableAt, index_of_blocks}
+use Rattle.table_model.specs.Images.{IsTableAt}
+use Rattle.table_model.specs.Pieces.{IsPiece, blocks_in, index_of_pieces, piece_pages, row_of_piece}
+use Rattle.table_model.proofs.Pieces.{row_pages_are}
 use Rattle.table_model.proofs.Decided.{window_bytes}
 use Rattle.image_model.specs.Findings.{AtLeast, Before, FilterFindings, Finding, RowWithoutFindingIsTable, are_sound_blocks, block_findings, blocks_of_row, compared, count_findings, damaged, findings_at, findings_behind, findings_of_blocks, index_rows, keys_by, known_behind, known_keys, leaf_findings, may_follow, unknown}
 use Rattle.filter_model.specs.Answers.{first_difference}
-use Rattle.image_model.proofs.CheckedBlocks.{AreBlocks, a_damage_is_found, are_blocks, at_none, none_of_both, part_kept, right}
+use Rattle.image_model.proofs.CheckedBlocks.{AreBlocks, a_damage_is_found, are_blocks, at_none, none_of_both, part_kept, pieces_at, pieces_read, right}
 use Rattle.filter_model.proofs.Differences.{one_list}
 
 any_follow : (test : Bytes → Bool) (keys : List Bytes) → Follow test keys → Follow is_any keys
@@ -44,26 +48,30 @@ all_join : (xs ys : List Entry) → AllByRecursion IsEntry xs → AllByRecursion
 all_join [] ys a b = b
 all_join (x ∷ xs) ys a b = (a.0, all_join xs ys a.1 b)
 
-all_entries : (blocks : List (List Entry)) → AllByRecursion IsBlock blocks → AllByRecursion IsEntry (joined blocks)
+entry_of_format : (f : Format) (e : Entry) → IsEntryOf f e → IsEntry e
+entry_of_format Old e is = is.sound
+entry_of_format Prefixed e is = is
+
+entries_of_format : (f : Format) (es : List Entry) → AllByRecursion (IsEntryOf f) es → AllByRecursion IsEntry es
+entries_of_format f [] all = tt
+entries_of_format f (e ∷ es) all = (entry_of_format f e all.0, entries_of_format f es all.1)
+
+all_entries : (pieces : List Bytes) → AllByRecursion IsPiece pieces → AllByRecursion IsEntry (joined (blocks_in pieces))
 all_entries [] all = tt
-all_entries (block ∷ later) all = all_join block (joined later) all.0.each (all_entries later all.1)
+all_entries (p ∷ later) all = all_join _ (joined (blocks_in later)) (entries_of_format _ _ all.0.sound.each) (all_entries later all.1)
 
-some_entries : (blocks : List (List Entry)) → 1 ≤ length blocks → AllByRecursion IsBlock blocks → 1 ≤ length (joined blocks)
+some_entries : (pieces : List Bytes) → 1 ≤ length pieces → AllByRecursion IsPiece pieces → 1 ≤ length (joined (blocks_in pieces))
 some_entries [] some all = absurd (omega (arith, some))
-some_entries (block ∷ later) some all = omega (arith, length-append block (joined later), all.0.some)
+some_entries (p ∷ later) some all = omega (arith, length-append (block_in p) (joined (blocks_in later)), all.0.sound.some)
 
-pub row_pages_are : (block : List Entry) → (index_row_of block).pages ≡ block_pages block
-unfolding index_row_of
-row_pages_are block = refl
-
-pages_are : (blocks : List (List Entry)) → sum_by (λ (row : IndexRow). row.pages) (map index_row_of blocks) ≡ sum_by block_pages blocks
+pages_are : (pieces : List Bytes) → sum_by (λ (row : IndexRow). row.pages) (map row_of_piece pieces) ≡ sum_by piece_pages pieces
 pages_are [] = refl
-pages_are (block ∷ later) =
-    omega (arith, sum_by-cons (λ (row : IndexRow). row.pages) (index_row_of block) (map index_row_of later), sum_by-cons block_pages block later, row_pages_are block, pages_are later)
+pages_are (p ∷ later) =
+    omega (arith, sum_by-cons (λ (row : IndexRow). row.pages) (row_of_piece p) (map row_of_piece later), sum_by-cons piece_pages p later, row_pages_are p, pages_are later)
 
-index_is : (blocks : List (List Entry)) (index : Index) → first_key (joined blocks) ≡ index.least → map index_row_of blocks ≡ index.rows → index_of_blocks blocks ≡ index
-unfolding index_of_blocks
-index_is blocks index least rows = λ i. record { least = least i; rows = rows i }
+index_is : (pieces : List Bytes) (index : Index) → first_key (joined (blocks_in pieces)) ≡ index.least → map row_of_piece pieces ≡ index.rows → index_of_pieces pieces ≡ index
+unfolding index_of_pieces
+index_is pieces index least rows = λ i. record { least = least i; rows = rows i }
 
 module _ (spelling : Spelling) (row : Row) (image : Image) (bytes : IsOfBytes image) (sound_index : index_damage row image ≡ None) (keys : findings_of_blocks row image ≡ []) where
   abbrev part : Bytes
@@ -71,6 +79,12 @@ module _ (spelling : Spelling) (row : Row) (image : Image) (bytes : IsOfBytes im
 
   abbrev blocks : List (List Entry)
   blocks = blocks_of_row row image
+
+  abbrev pieces : List Bytes
+  pieces = pieces_at row.first_page (index_rows row image) image
+
+  read : blocks_in pieces ≡ blocks
+  read = pieces_read row.first_page (index_rows row image) image
 
   kept : (row.index_sum ≡ fnv_of part) × (index_fault row.data_pages part ≡ None)
   kept = part_kept _ (byte_of_page (index_page row)) row.index_sum part (index_fault row.data_pages part) sound_index
@@ -82,10 +96,10 @@ module _ (spelling : Spelling) (row : Row) (image : Image) (bytes : IsOfBytes im
   are = are_blocks row.first_page (AtLeast (index_in part).least) (index_rows row image) image bytes keys
 
   some : 1 ≤ length (joined blocks)
-  some = some_entries blocks (omega (arith, written.0.some, ap (λ (rows : List IndexRow). length rows) are.rows_are, length-map blocks index_row_of)) are.each
+  some = subst (λ (bs : List (List Entry)). 1 ≤ length (joined bs)) read (some_entries pieces (omega (arith, written.0.some, ap (λ (rows : List IndexRow). length rows) are.rows_are, length-map pieces row_of_piece)) are.each)
 
-  index : index_of_blocks blocks ≡ index_in part
-  index = index_is blocks (index_in part) (sym (same-true (index_in part).least (first_key (joined blocks)) (first_passes (may_follow (AtLeast (index_in part).least)) (joined blocks) some are.rising))) are.rows_are
+  index : index_of_pieces pieces ≡ index_in part
+  index = index_is pieces (index_in part) (ap (λ (bs : List (List Entry)). first_key (joined bs)) read ∙ sym (same-true (index_in part).least (first_key (joined blocks)) (first_passes (may_follow (AtLeast (index_in part).least)) (joined blocks) some are.rising))) are.rows_are
 
   long : length part ≡ row.index_len
   long = window_size image (byte_of_page (index_page row)) row.index_len
@@ -93,20 +107,22 @@ module _ (spelling : Spelling) (row : Row) (image : Image) (bytes : IsOfBytes im
   filter_long : length (filter_part row image) ≡ row.filter_len
   filter_long = window_size image (byte_of_page (filter_page row)) row.filter_len
 
-  index_bytes_are : index_bytes (index_of_blocks blocks) ≡ part
+  index_bytes_are : index_bytes (index_of_pieces pieces) ≡ part
   index_bytes_are = ap index_bytes index ∙ written.1
 
   pub checked_table : row.index_pages ≡ pages_for row.index_len → row.filter_pages ≡ pages_for row.filter_len → length (joined blocks) ≡ row.entries
       → (sound : IsSoundFilter spelling row image) → first_difference sound.leaves (leaves_of row.hash_bits row.real_bits (keys_of (joined blocks))) ≡ None → IsTableAt spelling row blocks image
   checked_table index_pages filter_pages count sound none = record {
+    pieces = pieces;
+    read = read;
     each = are.each;
     table = record {
-      sound = record { each = all_entries blocks are.each; few = omega (arith, count, sound.many, sound.spelled.may_stand.valid.few) };
+      sound = record { each = subst (λ (bs : List (List Entry)). AllByRecursion IsEntry (joined bs)) read (all_entries pieces are.each); few = omega (arith, count, sound.many, sound.spelled.may_stand.valid.few) };
       some = some;
       rising = any_follow (may_follow (AtLeast (index_in part).least)) (keys_of (joined blocks)) are.rising;
     };
     blocks_shown = are.shown;
-    data_pages = sym (pages_are blocks) ∙ ap (sum_by (λ (r : IndexRow). r.pages)) are.rows_are ∙ written.0.all_pages;
+    data_pages = sym (pages_are pieces) ∙ ap (sum_by (λ (r : IndexRow). r.pages)) are.rows_are ∙ written.0.all_pages;
     index_pages = index_pages;
     filter_pages = filter_pages;
     index_sound = subst (IsIndex row.data_pages) (sym index) written.0;

@@ -2,7 +2,7 @@
 use Rattle.std.proofs.Common.{◌≡◌, ◌≤◌, ◌+◌, ◌*◌, ◌==◌, ℕ, Bool, true, not, List, [], ◌∷◌, ◌++◌, length, refl, inl, inr, sym, ap, ap₂, ◌∙◌, subst, arith}
 use Rattle.std.proofs.lemmas.Bool.{and_from, eq-eqb, eqb-true, or_right}
 use Rattle.std.proofs.lemmas.List.{length-map}
-use Rattle.std.specs.Prelude.{flat_map, is_none, map, nat_lt, Option, Some, None, ◌&&◌}
+use Rattle.std.specs.Prelude.{is_none, map, nat_lt, Option, Some, None, ◌&&◌}
 use Rattle.std.specs.List.{AllByRecursion}
 use Rattle.byte_fields.specs.Faults.{Fault, refuse}
 use Rattle.byte_fields.specs.declared.parts.Damage.{Damage}
@@ -18,16 +18,13 @@ use Rattle.filter_model.specs.Strings.{bytes_eq}
 use Rattle.key_base.specs.ByteOrder.{is_before}
 use Rattle.map_model.specs.SortedMap.{Bytes}
 use Rattle.entry_model.specs.Entries.{Entry, keys_of}
-use Rattle.block_model.specs.Block.{IsBlock, block_bytes}
 use Rattle.block_model.specs.BlockReading.{block_in}
-use Rattle.block_model.specs.Index.{Index, IndexRow, index_row_of}
+use Rattle.block_model.specs.Index.{Index, IndexRow}
 use Rattle.block_model.specs.IndexReading.{index_in}
 use Rattle.block_model.specs.Laws.{joined}
 use Rattle.block_model.specs.Order.{Follow, is_any}
 use Rattle.block_model.specs.Pages.{first_key, last_key, pages_for}
 use Rattle.block_model.specs.Places.{byte_of_page, index_page}
-use Rattle.block_model.proofs.BlocksRead.{block_again}
-use Rattle.block_model.proofs.Lengths.{block_fills}
 use Rattle.block_model.proofs.Refusals.{kept, neither, not_false}
 use Rattle.log_model.specs.Area.{LogIs}
 use Rattle.manifest_model.specs.Laws.{IsVersion}
@@ -37,10 +34,11 @@ use Rattle.manifest_model.specs.Tables.{follows, ranges_after, ranges_fault}
 use Rattle.manifest_model.specs.Version.{Version, log_page_of, slot_a, slot_b}
 use Rattle.manifest_model.proofs.Versions.{in_use}
 use Rattle.state_model.specs.State.{State}
-use Rattle.table_model.specs.Damage.{AreSoundBlocks, IsOfBytes, IsSoundFilter, block_damage, block_part, index_damage, index_part}
-use Rattle.table_model.specs.Images.{IsTableAt, index_of_blocks, table_with}
+use Rattle.table_model.specs.Damage.{AreSoundBlocks, IsOfBytes, IsSoundFilter, block_damage, index_damage, index_part}
+use Rattle.table_model.specs.Images.{IsTableAt, table_with}
+use Rattle.table_model.specs.Pieces.{IsPiece, blocks_in, end_to_end, index_of_pieces, row_of_piece}
 use Rattle.table_model.specs.Tables.{Table}
-use Rattle.table_model.proofs.OneTable.{rows_of_index}
+use Rattle.table_model.proofs.Pieces.{least_of_index, piece_fills, row_last, row_pages_are, rows_of_index}
 use Rattle.table_model.proofs.Shown.{shown_is, shown_parts}
 use Rattle.table_model.proofs.Sound.{blocks_have_none, filter_has_none, filter_of_keys, index_has_none, index_read}
 use Rattle.image_model.specs.Findings.{AreFindings, AtLeast, Before, Behind, FilterFindings, Finding, LogFindings, NoFindingIsState, RowsFindings, WrongCount, WrongKeys, are_sound_blocks, block_at, block_findings, blocks_at, blocks_of_row, broken, compared, count_findings, fault_after, finding, findings_at, findings_behind, findings_of_blocks, has_its_keys, index_findings, index_rows, known_behind, known_keys, leaf_findings, may_follow, neighbours_fault, of_slots, of_version, ranges_findings, spelled, unless}
@@ -48,7 +46,7 @@ use Rattle.image_model.specs.Opening.{IsOpened, key_range_of, opened_state}
 use Rattle.image_model.specs.Stands.{IsStateBy, IsStateOf}
 use Rattle.image_model.specs.Tables.{AreTablesOf}
 use Rattle.image_model.proofs.CheckedBlocks.{a_damage_is_found, none_of_both}
-use Rattle.image_model.proofs.CheckedTables.{keys_known, row_pages_are, row_without_finding_is_table}
+use Rattle.image_model.proofs.CheckedTables.{keys_known, row_without_finding_is_table}
 use Rattle.image_model.proofs.Opened.{opened_is_state}
 use Rattle.image_model.proofs.Opening.{all_opened}
 use Rattle.image_model.proofs.Ranges.{ranges_keep}
@@ -143,61 +141,53 @@ from_least : (entries : List Entry) → Follow is_any (keys_of entries) → Foll
 from_least [] f = tt
 from_least (e ∷ later) f = (same-itself e.key, f.1)
 
-last_of_row : (block : List Entry) → (index_row_of block).last ≡ last_key block
-unfolding index_row_of
-last_of_row block = refl
+read_piece : (page : ℕ) (piece : Bytes) (image : Image) → IsPiece piece → Shows (byte_of_page page) piece image → block_at page (row_of_piece piece) image ≡ block_in piece
+read_piece page piece image is shown =
+    ap block_in (shown_is (byte_of_page page) (4096 * (row_of_piece piece).pages) piece image (piece_fills piece is.whole ∙ ap (λ (n : ℕ). 4096 * n) (sym (row_pages_are piece))) shown)
 
-least_of_index : (blocks : List (List Entry)) → (index_of_blocks blocks).least ≡ first_key (joined blocks)
-unfolding index_of_blocks
-least_of_index blocks = refl
-
-read_block : (page : ℕ) (block : List Entry) (image : Image) → IsBlock block → Shows (byte_of_page page) (block_bytes block) image → block_at page (index_row_of block) image ≡ block
-read_block page block image is shown =
-    let there : block_part page (index_row_of block) image ≡ block_bytes block =
-    shown_is (byte_of_page page) (4096 * (index_row_of block).pages) (block_bytes block) image (block_fills block ∙ ap (λ (n : ℕ). 4096 * n) (sym (row_pages_are block))) shown in
-    ap block_in there ∙ (block_again block is).1
-
-none_of_blocks : (page : ℕ) (before : Before) (blocks : List (List Entry)) (image : Image) → AllByRecursion IsBlock blocks → AreSoundBlocks page (map index_row_of blocks) image
-    → Shows (byte_of_page page) (flat_map block_bytes blocks) image → Follow (may_follow before) (keys_of (joined blocks))
-    → (block_findings page before (map index_row_of blocks) image ≡ []) × (blocks_at page (map index_row_of blocks) image ≡ blocks)
-none_of_blocks page before [] image each sound shown follow = (refl, refl)
-none_of_blocks page before (block ∷ later) image each sound shown follow =
-    let row = index_row_of block in
-    let parts = shown_parts (byte_of_page page) (block_bytes block) (flat_map block_bytes later) image shown in
-    let read = read_block page block image each.0 parts.0 in
-    let cut = follow_cut (may_follow before) block (joined later) each.0.some follow in
-    let next : byte_of_page page + length (block_bytes block) ≡ byte_of_page (page + row.pages) = omega (arith, block_fills block, row_pages_are block) in
-    let rest = none_of_blocks (page + row.pages) (Behind (last_key block)) later image each.1 sound.1 (subst (λ (at : ℕ). Shows at (flat_map block_bytes later) image) next parts.1) cut.1 in
+none_of_pieces : (page : ℕ) (before : Before) (pieces : List Bytes) (image : Image) → AllByRecursion IsPiece pieces → AreSoundBlocks page (map row_of_piece pieces) image
+    → Shows (byte_of_page page) (end_to_end pieces) image → Follow (may_follow before) (keys_of (joined (blocks_in pieces)))
+    → (block_findings page before (map row_of_piece pieces) image ≡ []) × (blocks_at page (map row_of_piece pieces) image ≡ blocks_in pieces)
+none_of_pieces page before [] image each sound shown follow = (refl, refl)
+none_of_pieces page before (piece ∷ later) image each sound shown follow =
+    let row = row_of_piece piece in
+    let block = block_in piece in
+    let parts = shown_parts (byte_of_page page) piece (end_to_end later) image shown in
+    let read = read_piece page piece image each.0 parts.0 in
+    let cut = follow_cut (may_follow before) block (joined (blocks_in later)) each.0.sound.some follow in
+    let next : byte_of_page page + length piece ≡ byte_of_page (page + row.pages) = omega (arith, piece_fills piece each.0.whole, row_pages_are piece) in
+    let rest = none_of_pieces (page + row.pages) (Behind (last_key block)) later image each.1 sound.1 (subst (λ (at : ℕ). Shows at (end_to_end later) image) next parts.1) cut.1 in
     let keys : has_its_keys before row (block_at page row image) ≡ true =
     ap (has_its_keys before row) read
-    ∙ and_from (bytes_eq row.last (last_key block)) (may_follow before (first_key block)) (ap (λ (k : Bytes). bytes_eq k (last_key block)) (last_of_row block) ∙ same-itself (last_key block)) cut.0 in
+    ∙ and_from (bytes_eq row.last (last_key block)) (may_follow before (first_key block)) (ap (λ (k : Bytes). bytes_eq k (last_key block)) (row_last piece) ∙ same-itself (last_key block)) cut.0 in
     let here : findings_at page before row (block_damage page row image) image ≡ [] =
     ap (λ (o : Option Damage). findings_at page before row o image) sound.0 ∙ ap (λ (b : Bool). unless b (finding part.Block (byte_of_page page) WrongKeys)) keys in
     let behind : known_behind page row (block_damage page row image) image ≡ Behind (last_key block) =
     ap (λ (o : Option Damage). known_behind page row o image) sound.0 ∙ ap (λ (b : List Entry). Behind (last_key b)) read in (
-      (λ j. here j ++ block_findings (page + row.pages) (behind j) (map index_row_of later) image) ∙ rest.0,
+      (λ j. here j ++ block_findings (page + row.pages) (behind j) (map row_of_piece later) image) ∙ rest.0,
       ap₂ (λ (b : List Entry) (bs : List (List Entry)). b ∷ bs) read rest.1,
     )
 
 module _ (spelling : Spelling) (first_fault : Bytes → FilterFault) (row : Row) (blocks : List (List Entry)) (image : Image) (t : IsTableAt spelling row blocks image) where
-  read : index_in (index_part row image) ≡ index_of_blocks blocks
+  read : index_in (index_part row image) ≡ index_of_pieces t.pieces
   read = index_read spelling row blocks image t
 
-  rows_are : index_rows row image ≡ map index_row_of blocks
-  rows_are = ap (λ (x : Index). x.rows) read ∙ rows_of_index blocks
+  rows_are : index_rows row image ≡ map row_of_piece t.pieces
+  rows_are = ap (λ (x : Index). x.rows) read ∙ rows_of_index t.pieces
 
   least_is : (index_in (index_part row image)).least ≡ first_key (joined blocks)
-  least_is = ap (λ (x : Index). x.least) read ∙ least_of_index blocks
+  least_is = ap (λ (x : Index). x.least) read ∙ least_of_index t.pieces ∙ ap (λ (bs : List (List Entry)). first_key (joined bs)) t.read
 
-  none : (block_findings row.first_page (AtLeast (first_key (joined blocks))) (map index_row_of blocks) image ≡ []) × (blocks_at row.first_page (map index_row_of blocks) image ≡ blocks)
-  none = none_of_blocks row.first_page (AtLeast (first_key (joined blocks))) blocks image t.each
-      (subst (λ (rows : List IndexRow). AreSoundBlocks row.first_page rows image) rows_are (blocks_have_none spelling row blocks image t)) t.blocks_shown (from_least (joined blocks) t.table.rising)
+  none : (block_findings row.first_page (AtLeast (first_key (joined blocks))) (map row_of_piece t.pieces) image ≡ []) × (blocks_at row.first_page (map row_of_piece t.pieces) image ≡ blocks_in t.pieces)
+  none = none_of_pieces row.first_page (AtLeast (first_key (joined blocks))) t.pieces image t.each
+      (subst (λ (rows : List IndexRow). AreSoundBlocks row.first_page rows image) rows_are (blocks_have_none spelling row blocks image t)) t.blocks_shown
+      (subst (λ (bs : List (List Entry)). Follow (may_follow (AtLeast (first_key (joined blocks)))) (keys_of (joined bs))) (sym t.read) (from_least (joined blocks) t.table.rising))
 
   none_of_all : findings_of_blocks row image ≡ []
   none_of_all = (λ j. block_findings row.first_page (AtLeast (least_is j)) (rows_are j) image) ∙ none.0
 
   blocks_are : blocks_of_row row image ≡ blocks
-  blocks_are = ap (λ (rows : List IndexRow). blocks_at row.first_page rows image) rows_are ∙ none.1
+  blocks_are = ap (λ (rows : List IndexRow). blocks_at row.first_page rows image) rows_are ∙ none.1 ∙ t.read
 
   count_is : length (joined (blocks_of_row row image)) ≡ row.entries
   count_is = ap (λ (bs : List (List Entry)). length (joined bs)) blocks_are ∙ t.entries

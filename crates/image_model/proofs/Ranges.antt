@@ -8,9 +8,10 @@ use Rattle.std.specs.Ordering.{is_lt}
 use Rattle.byte_fields.specs.declared.parts.Row.{Row}
 use Rattle.disk_trait.specs.Image.{Image}
 use Rattle.filter_api.specs.Spellings.{Spelling}
+use Rattle.map_model.specs.SortedMap.{Bytes}
 use Rattle.entry_model.specs.Entries.{Entry}
-use Rattle.block_model.specs.Block.{IsBlock}
-use Rattle.block_model.specs.Index.{Index, index_row_of}
+use Rattle.block_model.specs.BlockReading.{block_in}
+use Rattle.block_model.specs.Index.{Index}
 use Rattle.block_model.specs.IndexReading.{index_in}
 use Rattle.block_model.specs.Laws.{joined}
 use Rattle.key_base.specs.ByteOrder.{is_before}
@@ -21,8 +22,9 @@ use Rattle.state_model.specs.Merges.{greatest_key, least_key}
 use Rattle.state_model.specs.Sound.{StandsBefore}
 use Rattle.table_model.specs.Tables.{Table}
 use Rattle.table_model.specs.Damage.{index_part}
-use Rattle.table_model.specs.Images.{IsTableOf, index_of_blocks}
-use Rattle.table_model.proofs.OneTable.{rows_of_index}
+use Rattle.table_model.specs.Images.{IsTableOf}
+use Rattle.table_model.specs.Pieces.{IsPiece, blocks_in, index_of_pieces, row_of_piece}
+use Rattle.table_model.proofs.Pieces.{least_of_index, row_last, rows_of_index}
 use Rattle.table_model.proofs.Sound.{index_read}
 use Rattle.image_model.specs.Opening.{greatest_in, key_range_of}
 use Rattle.image_model.specs.Tables.{AreTablesOf}
@@ -38,23 +40,15 @@ last_of_some : (xs ys : List Entry) → 1 ≤ length ys → last_key (xs ++ ys) 
 last_of_some xs [] some = absurd (omega (arith, some))
 last_of_some xs (y ∷ ys) some = last_behind xs y ys
 
-last_of_row : (block : List Entry) → (index_row_of block).last ≡ last_key block
-unfolding index_row_of
-last_of_row block = refl
-
 some_joined : (block : List Entry) (later : List (List Entry)) → 1 ≤ length block → 1 ≤ length (joined (block ∷ later))
 some_joined [] later some = absurd (omega (arith, some))
 some_joined (e ∷ es) later some = omega arith
 
-greatest_is : (blocks : List (List Entry)) → AllByRecursion IsBlock blocks → greatest_in (map index_row_of blocks) ≡ last_key (joined blocks)
+greatest_is : (pieces : List Bytes) → AllByRecursion IsPiece pieces → greatest_in (map row_of_piece pieces) ≡ last_key (joined (blocks_in pieces))
 greatest_is [] each = refl
-greatest_is (block ∷ []) each = last_of_row block ∙ ap last_key (sym (append-nil block))
-greatest_is (block ∷ next ∷ later) each =
-    greatest_is (next ∷ later) each.1 ∙ sym (last_of_some block (joined (next ∷ later)) (some_joined next later each.1.0.some))
-
-least_of_index : (blocks : List (List Entry)) → (index_of_blocks blocks).least ≡ first_key (joined blocks)
-unfolding index_of_blocks
-least_of_index blocks = refl
+greatest_is (p ∷ []) each = row_last p ∙ ap last_key (sym (append-nil (block_in p)))
+greatest_is (p ∷ next ∷ later) each =
+    greatest_is (next ∷ later) each.1 ∙ sym (last_of_some (block_in p) (joined (blocks_in (next ∷ later))) (some_joined (block_in next) (blocks_in later) each.1.0.sound.some))
 
 -- the range of a table
 abbrev pub range_of_table : Table → KeyRange
@@ -62,11 +56,12 @@ range_of_table t = record { level = t.level; least = least_key t; greatest = gre
 
 range_is : (spelling : Spelling) (row : Row) (t : Table) (image : Image) → IsTableOf spelling row t image → key_range_of image row ≡ range_of_table t
 range_is spelling row t image is =
-    let read : index_in (index_part row image) ≡ index_of_blocks is.0 = index_read spelling row is.0 image is.1 in
+    let pieces = is.1.pieces in
+    let read : index_in (index_part row image) ≡ index_of_pieces pieces = index_read spelling row is.0 image is.1 in
     let level : row.level ≡ t.level = sym (ap (λ (u : Table). u.level) is.2) in
-    let least : (index_in (index_part row image)).least ≡ least_key t = ap (λ (x : Index). x.least) read ∙ least_of_index is.0 ∙ sym (ap least_key is.2) in
+    let least : (index_in (index_part row image)).least ≡ least_key t = ap (λ (x : Index). x.least) read ∙ least_of_index pieces ∙ ap (λ (bs : List (List Entry)). first_key (joined bs)) is.1.read ∙ sym (ap least_key is.2) in
     let greatest : greatest_in (index_in (index_part row image)).rows ≡ greatest_key t =
-    ap (λ (x : Index). greatest_in x.rows) read ∙ ap greatest_in (rows_of_index is.0) ∙ greatest_is is.0 is.1.each ∙ sym (ap greatest_key is.2) in
+    ap (λ (x : Index). greatest_in x.rows) read ∙ ap greatest_in (rows_of_index pieces) ∙ greatest_is pieces is.1.each ∙ ap (λ (bs : List (List Entry)). last_key (joined bs)) is.1.read ∙ sym (ap greatest_key is.2) in
     λ i. record { level = level i; least = least i; greatest = greatest i }
 
 pub ranges_are : (spelling : Spelling) (rows : List Row) (tables : List Table) (image : Image) → AreTablesOf spelling rows tables image

@@ -14,11 +14,10 @@ use Rattle.entry_model.specs.Entries.{Entry, filled}
 use Rattle.key_base.specs.Limits.{last_epoch}
 use Rattle.log_model.specs.Area.{area_size, start_of}
 use Rattle.log_model.proofs.Logs.{size_is}
-use Rattle.block_model.specs.Index.{index_row_of}
-use Rattle.block_model.specs.Pages.{block_length, block_pages, pages_for}
+use Rattle.block_model.specs.BlockReading.{block_in}
+use Rattle.block_model.specs.Index.{IsIndexRow}
+use Rattle.block_model.specs.Pages.{pages_for}
 use Rattle.block_model.specs.Places.{pages_of}
-use Rattle.block_model.specs.Block.{IsBlock}
-use Rattle.block_model.proofs.Bounds.{weaker}
 use Rattle.extent_model.specs.Extents.{AreApart, Extent, IsOnDevice}
 use Rattle.extent_model.proofs.Lists.{Pairs, all_pairs}
 use Rattle.manifest_model.specs.Laws.{IsVersion}
@@ -30,7 +29,9 @@ use Rattle.state_model.specs.Taken.{extent_of, taken}
 use Rattle.state_model.proofs.Places.{IsSmall, blocks_joined_small}
 use Rattle.table_model.specs.Images.{IsTableAt, IsTableOf}
 use Rattle.table_model.specs.Tables.{FilterBytes, Table}
-use Rattle.table_model.proofs.OneTable.{rows_of_index}
+use Rattle.table_model.specs.Pieces.{IsPiece, blocks_in, piece_pages, row_of_piece}
+use Rattle.table_model.proofs.Pieces.{row_pages_are, rows_of_index}
+use Rattle.map_model.specs.SortedMap.{Bytes}
 use Rattle.image_model.specs.Sound.{StateIsSound}
 use Rattle.image_model.specs.Stands.{IsNamedBy}
 use Rattle.image_model.specs.Tables.{AreTablesOf}
@@ -42,26 +43,29 @@ some_pages : (n : ℕ) → 1 ≤ n → 1 ≤ pages_for n
 unfolding pages_for
 some_pages n some = omega (arith, some)
 
-block_has_pages : (block : List Entry) → 1 ≤ block_pages block
-unfolding block_pages block_length
-block_has_pages block = some_pages _ (omega arith)
-
-blocks_have_pages : (blocks : List (List Entry)) → length blocks ≤ sum_by block_pages blocks
-blocks_have_pages [] = omega arith
-blocks_have_pages (block ∷ more) = omega (arith, sum_by-cons block_pages block more, block_has_pages block, blocks_have_pages more)
+pieces_have_pages : (pieces : List Bytes) → AllByRecursion IsIndexRow (map row_of_piece pieces) → length pieces ≤ sum_by piece_pages pieces
+pieces_have_pages [] each = omega arith
+pieces_have_pages (p ∷ more) each = omega (arith, sum_by-cons piece_pages p more, row_pages_are p, each.0.some_pages, pieces_have_pages more each.1)
 
 some_blocks : (spelling : Spelling) (row : Row) (blocks : List (List Entry)) (image : Image) → IsTableAt spelling row blocks image
     → (1 ≤ length blocks) × (length blocks ≤ pages_of row)
 some_blocks spelling row blocks image t =
-    let many = ap length (rows_of_index blocks) ∙ length-map blocks index_row_of in
-    (omega (arith, t.index_sound.some, many), omega (arith, blocks_have_pages blocks, t.data_pages))
+    let ps = t.pieces in
+    let many = ap length (rows_of_index ps) ∙ length-map ps row_of_piece in
+    let same = sym (length-map ps block_in) ∙ ap length t.read in
+    let rows = subst (AllByRecursion IsIndexRow) (rows_of_index ps) t.index_sound.each in
+    (omega (arith, t.index_sound.some, many, same), omega (arith, pieces_have_pages ps rows, t.data_pages, same))
+
+small_blocks : (pieces : List Bytes) → AllByRecursion IsPiece pieces → AllByRecursion IsSmall (blocks_in pieces)
+small_blocks [] each = tt
+small_blocks (p ∷ more) each = (each.0.sound.few, small_blocks more each.1)
 
 table_sound : (spelling : Spelling) (row : Row) (t : Table) (image : Image) → IsLevelled row → IsTableOf spelling row t image → IsSoundTable t
 table_sound spelling row t image is of_row = subst IsSoundTable (sym of_row.2) (record {
   level = is.level;
   entries = of_row.1.table;
   blocks = some_blocks spelling row of_row.0 image of_row.1;
-  few = blocks_joined_small of_row.0 (weaker IsBlock IsSmall (λ block is. is.few) of_row.0 of_row.1.each);
+  few = blocks_joined_small of_row.0 (subst (AllByRecursion IsSmall) of_row.1.read (small_blocks of_row.1.pieces of_row.1.each));
   settings = is.range.settings;
   ratio = is.range.ratio;
 })

@@ -13,7 +13,11 @@ is_no_key_length bytes = bytes == 0 || nat_lt max_key_bytes bytes
 abbrev pub max_bound_bytes : ℕ
 max_bound_bytes = 1024
 
--- the bytes of the longest value that the log takes; the shortest has none
+-- the bytes of the longest value that a block takes; the shortest has none
+abbrev pub max_value_bytes : ℕ
+max_value_bytes = 1048576
+
+-- the bytes of the longest value that the log takes, and a block of the first format; the shortest has none
 abbrev pub max_logged_value_bytes : ℕ
 max_logged_value_bytes = 65536
 
@@ -71,7 +75,11 @@ restart_entries = 16
 abbrev pub entry_head_bytes : ℕ
 entry_head_bytes = 7
 
--- the pages of the largest block of the first format: one entry, of the longest key and of the longest value of the log
+-- the pages of the largest block: one entry, of the longest key and of the longest value
+abbrev pub max_block_pages : ℕ
+max_block_pages = 257
+
+-- the pages of the largest block of the first format, whose value is as long as the longest of the log
 abbrev pub max_old_block_pages : ℕ
 max_old_block_pages = 17
 

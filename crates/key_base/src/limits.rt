@@ -8,7 +8,10 @@ pub const MAX_KEY_BYTES: usize = 1_024;
 /// The bytes of the longest bound of a range; the shortest has none.
 pub const MAX_BOUND_BYTES: usize = 1_024;
 
-/// The bytes of the longest value that the log takes; the shortest has none.
+/// The bytes of the longest value that a block takes; the shortest has none.
+pub const MAX_VALUE_BYTES: usize = 1_048_576;
+
+/// The bytes of the longest value that the log takes, and a block of the first format; the shortest has none.
 pub const MAX_LOGGED_VALUE_BYTES: usize = 65_536;
 
 /// The bytes of the longest line, without its newline.
@@ -54,7 +57,10 @@ pub const RESTART_ENTRIES: usize = 16;
 /// The bytes of an entry before its key and its value: its kind and their lengths.
 pub const ENTRY_HEAD_BYTES: usize = 7;
 
-/// The pages of the largest block of the first format: one entry, of the longest key and of the longest value of the log.
+/// The pages of the largest block: one entry, of the longest key and of the longest value.
+pub const MAX_BLOCK_PAGES: u32 = 257;
+
+/// The pages of the largest block of the first format, whose value is as long as the longest of the log.
 pub const MAX_OLD_BLOCK_PAGES: u32 = 17;
 
 /// The last number of an epoch: 2^64 - 1.

@@ -3,8 +3,7 @@ use Rattle.std.proofs.Common.{◌≡◌, ◌∙◌, ℕ, zero, suc, ◌-◌, ◌
 use Rattle.std.specs.Prelude.{Bool, true, slice_get}
 use Rattle.std.specs.List.{AllByRecursion}
 use Rattle.std.proofs.lemmas.Bool.{false≢true}
-use Rattle.block_model.specs.Block.{IsBlock}
-use Rattle.block_model.specs.Index.{Index, IndexRow, index_row_of}
+use Rattle.block_model.specs.Index.{Index, IndexRow}
 use Rattle.block_model.specs.Laws.{joined}
 use Rattle.block_model.specs.Order.{Follow, is_any}
 use Rattle.block_model.specs.Pages.{last_key}
@@ -24,7 +23,9 @@ use Rattle.state_model.specs.Merges.{lasting}
 use Rattle.table_file.specs.Laws.{StandingBlocks}
 use Rattle.table_file.specs.Opened.{Opened}
 use Rattle.table_file.specs.Walks.{blocks_on, to_come}
-use Rattle.table_model.specs.Images.{index_of_blocks}
+use Rattle.table_model.specs.Pieces.{blocks_in as pieces_read, index_of_pieces, row_of_piece}
+use Rattle.table_model.proofs.Pieces.{rows_of_index}
+use Rattle.table_file.proofs.Stands.{each_some}
 use Rattle.table_model.specs.Tables.{Table}
 
 -- ---- the blocks of a table: of the same entries, each with the same last key, they are the same
@@ -79,17 +80,17 @@ follow_rest test (e ∷ b) xs follow = follow_rest (is_before e.key) b xs follow
 lasts : List (List Entry) → List Bytes
 lasts blocks = map last_key blocks
 
-rows_lasts : (bs cs : List (List Entry)) → map index_row_of bs ≡ map index_row_of cs → map last_key bs ≡ map last_key cs
-unfolding index_row_of
+rows_lasts : (ps qs : List Bytes) → map row_of_piece ps ≡ map row_of_piece qs → map last_key (pieces_read ps) ≡ map last_key (pieces_read qs)
+unfolding row_of_piece
 rows_lasts [] [] same = refl
-rows_lasts [] (c ∷ cs) same = absurd cc
-rows_lasts (b ∷ bs) [] same = absurd cc
-rows_lasts (b ∷ bs) (c ∷ cs) same =
-    let here : index_row_of b ≡ index_row_of c = cc in
-    let rest : map index_row_of bs ≡ map index_row_of cs = cc in
-    ap₂ (λ (k : Bytes) (l : List Bytes). k ∷ l) (ap (λ (r : IndexRow). r.last) here) (rows_lasts bs cs rest)
+rows_lasts [] (q ∷ qs) same = absurd cc
+rows_lasts (p ∷ ps) [] same = absurd cc
+rows_lasts (p ∷ ps) (q ∷ qs) same =
+    let here : row_of_piece p ≡ row_of_piece q = cc in
+    let rest : map row_of_piece ps ≡ map row_of_piece qs = cc in
+    ap₂ (λ (k : Bytes) (l : List Bytes). k ∷ l) (ap (λ (r : IndexRow). r.last) here) (rows_lasts ps qs rest)
 
-same_cut : (test : Bytes → Bool) (bs cs : List (List Entry)) → AllByRecursion IsBlock bs → AllByRecursion IsBlock cs → joined bs ≡ joined cs → map last_key bs ≡ map last_key cs
+same_cut : (test : Bytes → Bool) (bs cs : List (List Entry)) → AllByRecursion (λ b. 1 ≤ length b) bs → AllByRecursion (λ b. 1 ≤ length b) cs → joined bs ≡ joined cs → map last_key bs ≡ map last_key cs
     → Follow test (keys_of (joined bs)) → bs ≡ cs
 same_cut test [] [] each_b each_c same last follow = refl
 same_cut test [] (c ∷ cs) each_b each_c same last follow = absurd cc
@@ -97,13 +98,12 @@ same_cut test (b ∷ bs) [] each_b each_c same last follow = absurd cc
 same_cut test (b ∷ bs) (c ∷ cs) each_b each_c same last follow =
     let here : last_key b ≡ last_key c = cc in
     let later : map last_key bs ≡ map last_key cs = cc in
-    let first = same_front test b c (joined bs) (joined cs) same each_b.0.some each_c.0.some here follow in
+    let first = same_front test b c (joined bs) (joined cs) same each_b.0 each_c.0 here follow in
     let rest = follow_rest test b (joined bs) follow in
     ap₂ (λ (x : List Entry) (l : List (List Entry)). x ∷ l) first (same_cut rest.0 bs cs each_b.1 each_c.1 (same_rest b c (joined bs) (joined cs) first same) later rest.1)
 
-index_rows : (bs cs : List (List Entry)) → index_of_blocks bs ≡ index_of_blocks cs → map index_row_of bs ≡ map index_row_of cs
-unfolding index_of_blocks
-index_rows bs cs same = ap (λ (i : Index). i.rows) same
+index_rows : (ps qs : List Bytes) → index_of_pieces ps ≡ index_of_pieces qs → map row_of_piece ps ≡ map row_of_piece qs
+index_rows ps qs same = sym (rows_of_index ps) ∙ ap (λ (i : Index). i.rows) same ∙ rows_of_index qs
 
 -- ---- the tables of two images
 
@@ -111,8 +111,11 @@ module _ (standing : StandingBlocks) (spelling : Spelling) (image other : Image)
   same_blocks : (t : Opened) (u : Table) → TableAgrees spelling t u image → TableAgrees spelling t u other → blocks_on t image ≡ blocks_on t other
   same_blocks t u here there =
       let entries : joined here.blocks ≡ joined there.blocks = sym (ap (λ (v : Table). v.entries) here.table_is) ∙ ap (λ (v : Table). v.entries) there.table_is in
-      let rows = index_rows here.blocks there.blocks (sym here.stands.index_is ∙ there.stands.index_is) in
-      let cut = same_cut is_any here.blocks there.blocks here.stands.at.each there.stands.at.each entries (rows_lasts here.blocks there.blocks rows) here.stands.at.table.rising in
+      let a = here.stands.at in
+      let b = there.stands.at in
+      let rows = index_rows a.pieces b.pieces (sym here.stands.index_is ∙ there.stands.index_is) in
+      let lasts = ap (map last_key) (sym a.read) ∙ rows_lasts a.pieces b.pieces rows ∙ ap (map last_key) b.read in
+      let cut = same_cut is_any here.blocks there.blocks (each_some spelling t here.blocks image here.stands) (each_some spelling t there.blocks other there.stands) entries lasts a.table.rising in
       (standing spelling t here.blocks image here.stands).on_device ∙ cut ∙ sym (standing spelling t there.blocks other there.stands).on_device
 
   same_at : (opened : List Opened) (tables : List Table) (place : ℕ) → TablesAgree spelling opened tables image → TablesAgree spelling opened tables other

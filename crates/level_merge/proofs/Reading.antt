@@ -47,7 +47,7 @@ read_fault tells tables which before after (table.Damaged d) want cause damage =
 
 pub kept_none : (tells : Bool) (tables : List Opened) (image : Image) (m : Merge) → KeepsRows tells tables image m m
 kept_none tells tables image m = record {
-  sources = record { numbers_are = refl; drops_are = refl; sound = λ t s. s };
+  sources = record { numbers_are = refl; stands_are = refl; drops_are = refl; sound = λ t s. s };
   floor_is = refl;
   left = λ t. refl;
 }
@@ -56,6 +56,7 @@ pub kept_then : (tells : Bool) (tables : List Opened) (image : Image) (a b c : M
 kept_then tells tables image a b c one two = record {
   sources = record {
     numbers_are = two.sources.numbers_are ∙ one.sources.numbers_are;
+    stands_are = two.sources.stands_are ∙ one.sources.stands_are;
     drops_are = two.sources.drops_are ∙ one.sources.drops_are;
     sound = λ t s. two.sources.sound t (one.sources.sound t s);
   };

@@ -81,6 +81,7 @@ module _ (tells : Bool) (tables : List Opened) (image : Image) (beside : ℕ) (d
   pub stays_kept : SourcesStay tells tables image first mid
   stays_kept = record {
     numbers_are = kept.sources.numbers_are ∙ stay.numbers_are;
+    stands_are = kept.sources.stands_are ∙ stay.stands_are;
     drops_are = kept.sources.drops_are ∙ stay.drops_are;
     sound = λ t sound. kept.sources.sound t (stay.sound t sound);
   }
@@ -97,6 +98,7 @@ module _ (tells : Bool) (tables : List Opened) (image : Image) (beside : ℕ) (d
     pub stays_on : SourcesStay tells tables image first m
     stays_on = record {
       numbers_are = goes.numbers_are ∙ kept.sources.numbers_are ∙ stay.numbers_are;
+      stands_are = goes.stands_are ∙ kept.sources.stands_are ∙ stay.stands_are;
       drops_are = goes.drops_are ∙ kept.sources.drops_are ∙ stay.drops_are;
       sound = λ t sound. goes.sound t (kept.sources.sound t (stay.sound t sound));
     }

@@ -35,7 +35,7 @@ use Rattle.level_merge.proofs.OutputLists.{full_output, no_row, none_built}
 use Rattle.merge_rows.specs.Merges.{Merge, merged_left, rows_left}
 use Rattle.merge_rows.specs.Reads.{OnlyReads, SomeBlock, blocks_left}
 use Rattle.merge_rows.specs.Rows.{rows_shown}
-use Rattle.merge_rows.specs.Steps.{IsSoundMerge, numbers}
+use Rattle.merge_rows.specs.Steps.{IsSoundMerge, numbers, stands}
 use Rattle.state_model.specs.Merges.{lasting, outputs_of}
 use Rattle.table_file.specs.Laws.{StandingBlocks}
 use Rattle.table_file.specs.Opened.{Opened}
@@ -184,6 +184,7 @@ module _ (standing : StandingBlocks) (spelling : Spelling) (built_cutoff : ℕ �
     one = inl (refl, refl, refl);
     read = takes.fewer;
     numbers_are = takes.sources.numbers_are;
+    stands_are = takes.sources.stands_are;
     settings = settings_are;
     output = ap (λ (m : JobValue). m.output) takes.rest;
     makes = subst (λ (h : Image). OutputsLeft spelling opened h mid left made) (sym reads.1.held) (record {
@@ -343,6 +344,7 @@ module _ (standing : StandingBlocks) (spelling : Spelling) (built_cutoff : ℕ �
         });
         read = subst (λ (m : Merge). blocks_left opened m.walks ≤ blocks_left opened old.merge.walks) (sym walks_are) takes.fewer;
         numbers_are = ap (λ (m : Merge). numbers m.walks) walks_are ∙ takes.sources.numbers_are;
+        stands_are = ap (λ (m : Merge). stands m.walks) walks_are ∙ takes.sources.stands_are;
         settings = new_settings;
         output = ap (λ (m : JobValue). m.output) closes.new_is ∙ output_is;
         makes = record {

@@ -19,7 +19,7 @@ use Rattle.level_merge.specs.declared.fault.Sliced.TheVariants as sliced
 use Rattle.level_merge.proofs.SliceMoves.{closing_ends, fault_of_close, fault_of_take, reads_end, slice_reads, slice_writes, still_bounded, within_last, within_none, within_one, within_same, written_one, written_same}
 use Rattle.merge_rows.specs.Merges.{Merge}
 use Rattle.merge_rows.specs.Reads.{OnlyReads, blocks_left}
-use Rattle.merge_rows.specs.Steps.{IsSoundMerge, numbers}
+use Rattle.merge_rows.specs.Steps.{IsSoundMerge, numbers, stands}
 use Rattle.table_file.specs.Opened.{Opened}
 use Rattle.table_model.specs.Tables.{filter_bytes_of, table_pages}
 
@@ -62,7 +62,7 @@ room_of_close spelling built_cutoff settings own built free here after same some
 
 module _ (spelling : Spelling) (built_cutoff : ℕ → List Leaf → ℕ) (tells : Bool) (blocks : ℕ) (opened : List Opened) (old mid : JobValue) (free : Taken) (before here : World)
     (rest : mid ≡ record old { merge = mid.merge; built = mid.built }) (reads : OnlyReads before here) (level : (1 ≤ old.output) × (old.output ≤ 6))
-    (walks : numbers mid.merge.walks ≡ numbers old.merge.walks) (bounded : IsTrue tells → IsSoundMerge old.merge opened before.seen.held → ReadMoves blocks before here) where
+    (walks : numbers mid.merge.walks ≡ numbers old.merge.walks) (stood : stands mid.merge.walks ≡ stands old.merge.walks) (bounded : IsTrue tells → IsSoundMerge old.merge opened before.seen.held → ReadMoves blocks before here) where
   same_output : mid.output ≡ old.output
   same_output = ap (λ (m : JobValue). m.output) rest
 
@@ -84,6 +84,7 @@ module _ (spelling : Spelling) (built_cutoff : ℕ → List Leaf → ℕ) (tells
     level = level_of mid.output same_output;
     same = (same_output, same_settings);
     numbers_are = walks;
+    stands_are = stood;
     few = within_same opened old mid mid rest fewer;
     rows = written_same opened old mid mid rest fewer;
     moves = slice_reads spelling built_cutoff old mid mid free free before here here rest reads;
@@ -102,6 +103,7 @@ module _ (spelling : Spelling) (built_cutoff : ℕ → List Leaf → ℕ) (tells
     level = level_of mid.output same_output;
     same = (same_output, same_settings);
     numbers_are = walks;
+    stands_are = stood;
     few = within_none opened old mid mid rest fewer;
     rows = written_same opened old mid mid rest fewer;
     moves = slice_reads spelling built_cutoff old mid mid free free before here here rest reads;
@@ -120,6 +122,7 @@ module _ (spelling : Spelling) (built_cutoff : ℕ → List Leaf → ℕ) (tells
     level = level_of mid.output same_output;
     same = (same_output, same_settings);
     numbers_are = walks;
+    stands_are = stood;
     few = tt;
     rows = λ _. tt;
     moves = slice_reads spelling built_cutoff old mid mid free free before here here rest reads;
@@ -148,6 +151,7 @@ module _ (spelling : Spelling) (built_cutoff : ℕ → List Leaf → ℕ) (tells
       level = level_of new.output (same.0 ∙ same_output);
       same = (same.0 ∙ same_output, same.1 ∙ same_settings);
       numbers_are = walks_on;
+      stands_are = ap (λ (m : Merge). stands m.walks) merge ∙ stood;
       few = within_one opened old mid new rest fewer spelling built_cutoff free extents row closes full;
       rows = written_one opened old mid new rest fewer spelling built_cutoff free extents row closes;
       moves = slice_writes spelling built_cutoff old mid new free extents before here after rest reads writes;
@@ -166,6 +170,7 @@ module _ (spelling : Spelling) (built_cutoff : ℕ → List Leaf → ℕ) (tells
       level = level_of new.output (same.0 ∙ same_output);
       same = (same.0 ∙ same_output, same.1 ∙ same_settings);
       numbers_are = walks_on;
+      stands_are = ap (λ (m : Merge). stands m.walks) merge ∙ stood;
       few = within_last opened old mid new rest fewer spelling built_cutoff free extents row closes;
       rows = written_one opened old mid new rest fewer spelling built_cutoff free extents row closes;
       moves = slice_writes spelling built_cutoff old mid new free extents before here after rest reads writes;
@@ -184,6 +189,7 @@ module _ (spelling : Spelling) (built_cutoff : ℕ → List Leaf → ℕ) (tells
       level = level_of new.output (same.0 ∙ same_output);
       same = (same.0 ∙ same_output, same.1 ∙ same_settings);
       numbers_are = walks_on;
+      stands_are = ap (λ (m : Merge). stands m.walks) merge ∙ stood;
       few = tt;
       rows = λ _. tt;
       moves = slice_writes spelling built_cutoff old mid new free extents before here after rest reads writes;

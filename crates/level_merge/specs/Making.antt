@@ -18,7 +18,7 @@ use Rattle.level_merge.specs.declared.fault.JobFault.TheVariants as fault
 use Rattle.level_merge.specs.declared.fault.Sliced.{Sliced}
 use Rattle.level_merge.specs.declared.fault.Sliced.TheVariants as sliced
 use Rattle.merge_rows.specs.Reads.{blocks_left}
-use Rattle.merge_rows.specs.Steps.{IsSoundMerge, numbers}
+use Rattle.merge_rows.specs.Steps.{IsSoundMerge, numbers, stands}
 use Rattle.table_file.specs.Opened.{Opened}
 use Rattle.table_model.specs.Tables.{FilterBytes, Table, table_of, table_pages}
 
@@ -69,6 +69,7 @@ pub record SliceOf (spelling : Spelling) (filter_bytes : FilterBytes) (opened : 
   pub one : OneOutput filter_bytes old free taken left later made now
   pub read : blocks_left opened new.merge.walks ≤ blocks_left opened old.merge.walks
   pub numbers_are : numbers new.merge.walks ≡ numbers old.merge.walks
+  pub stands_are : stands new.merge.walks ≡ stands old.merge.walks
   pub settings : new.settings ≡ old.settings
   pub output : new.output ≡ old.output
   pub makes : OutputsLeft spelling opened after.seen.held new later now

@@ -11,7 +11,7 @@ use Rattle.level_merge.specs.SliceSteps.{FailsBeforeWrite, HasNoRoom, IsSliceFau
 use Rattle.level_merge.specs.declared.fault.JobFault.{JobFault}
 use Rattle.level_merge.specs.declared.fault.Sliced.{Sliced}
 use Rattle.level_merge.specs.declared.fault.Sliced.TheVariants.{Working}
-use Rattle.merge_rows.specs.Steps.{IsSoundMerge, numbers}
+use Rattle.merge_rows.specs.Steps.{IsSoundMerge, numbers, stands}
 use Rattle.table_file.specs.Opened.{Opened}
 use Rattle.table_model.specs.Tables.{filter_bytes_of}
 
@@ -26,6 +26,7 @@ pub record SliceContract (spelling : Spelling) (built_cutoff : ℕ → List Leaf
   pub level : (1 ≤ new.output) × (new.output ≤ max_level)
   pub same : (new.output ≡ old.output) × (new.settings ≡ old.settings)
   pub numbers_are : numbers new.merge.walks ≡ numbers old.merge.walks
+  pub stands_are : stands new.merge.walks ≡ stands old.merge.walks
   pub few : IfOk result (MayMakeAsMany old new)
   pub rows : AreAllWritten old → OnOk result (AreAllWritten new)
   pub moves : SliceMoves spelling built_cutoff old new free taken before after

@@ -15,7 +15,7 @@ ghost use Rattle.level_merge.specs.Outputs.{IsCloseFault, last_row};
 ghost use Rattle.key_base.specs.Limits.{max_level, max_tables};
 ghost use Rattle.level_merge.specs.declared.fault.JobFault.TheVariants.{Memory};
 ghost use Rattle.merge_rows.specs.Reads.{OnlyReads, blocks_left};
-ghost use Rattle.merge_rows.specs.Steps.{AreNumbersIn, IsSoundMerge, numbers};
+ghost use Rattle.merge_rows.specs.Steps.{AreNumbersIn, AreWalksIn, IsSoundMerge, numbers, stands};
 ghost use Rattle.table_model.specs.Tables.{filter_bytes_of};
 
 use crate::bounds::{lies_deeper, numbers_of_all};
@@ -156,7 +156,7 @@ impl<'m, F: RangeFilter> Job<'m, F> {
         blocks: u32,
     ) -> Result<Sliced, JobFault>
         requires some { 0 < blocks }
-        requires there { AreNumbersIn tables.now.tables (numbers self.old.merge.walks) }
+        requires there { AreWalksIn tables.now.tables (stands self.old.merge.walks) }
         ensures slices { SliceContract F.spelling F.built_cutoff D.tells blocks tables.now.tables self.old self.new extents.old extents.new result (D.world disk.old) (D.world disk.new) }
         ensures follows { IsTrue D.tells → FollowsAnyJob F.spelling (filter_bytes_of F.spelling F.built_cutoff) tables.now.tables self.old self.new extents.old extents.new result (D.world disk.old) (D.world disk.new) }
     {
@@ -201,7 +201,7 @@ impl<'m, F: RangeFilter> Job<'m, F> {
         blocks: u32,
     ) -> Result<Sliced, JobFault>
         requires some { 0 < blocks }
-        requires there { AreNumbersIn tables.now.tables (numbers self.old.merge.walks) }
+        requires there { AreWalksIn tables.now.tables (stands self.old.merge.walks) }
         ensures { SliceContract F.spelling F.built_cutoff D.tells blocks tables.now.tables self.old self.new extents.old extents.new result (D.world disk.old) (D.world disk.new) }
     {
         // the law of the tables: what stands is read as it is, and no read of it is damage
@@ -232,9 +232,10 @@ impl<'m, F: RangeFilter> Job<'m, F> {
         tables: &Tables<F>,
         blocks: u32,
     ) -> Result<Stop, JobFault>
-        requires there { AreNumbersIn tables.now.tables (numbers self.old.merge.walks) }
+        requires there { AreWalksIn tables.now.tables (stands self.old.merge.walks) }
         ensures level { (1 ≤ self.old.output) × (self.old.output ≤ max_level) }
         ensures numbers { numbers self.new.merge.walks ≡ numbers self.old.merge.walks }
+        ensures stands { stands self.new.merge.walks ≡ stands self.old.merge.walks }
         ensures rest { self.new ≡ record self.old { merge = self.new.merge; built = self.new.built } }
         ensures taken { OnOk result (TakesRows D.tells tables.now.tables (D.world disk.old).seen.held self.old self.new) }
         ensures stop { IfOk result (IsStop D.tells blocks tables.now.tables (D.world disk.old).seen.held self.old.beside self.old.merge self.new.merge self.new.built) }

@@ -7,7 +7,7 @@ ghost use Rattle.level_merge.specs.JobValue.{IsBuilding, at_hand, is_full};
 ghost use Rattle.level_merge.specs.SliceSteps.{FillsOutput, IsStop, IsTakeFault, KeepsRows};
 ghost use Rattle.level_merge.specs.declared.fault.JobFault.TheVariants.{Memory};
 ghost use Rattle.merge_rows.specs.Reads.{OnlyReads, blocks_left, wanted};
-ghost use Rattle.merge_rows.specs.Steps.{AreCaughtUp, AreHeadsClear, AreNumbersIn, IsSoundMerge, SourcesStay, numbers};
+ghost use Rattle.merge_rows.specs.Steps.{AreCaughtUp, AreHeadsClear, AreWalksIn, IsSoundMerge, SourcesStay, numbers, stands};
 ghost use Rattle.state_model.specs.Merges.{lasting};
 
 use crate::fault::JobFault;
@@ -39,7 +39,7 @@ pub(crate) fn take_rows<'m, F: RangeFilter, D: Disk>(
     tables: &Tables<F>,
     blocks: u32,
 ) -> Result<Stop, JobFault>
-    requires there { AreNumbersIn tables.now.tables (numbers rows.old.walks) }
+    requires there { AreWalksIn tables.now.tables (stands rows.old.walks) }
     requires whole { rows.old.drops ≡ false }
     requires begun { IsBuilding rows.old.floor built.old.entries }
     ensures sources { SourcesStay D.tells tables.now.tables (D.world disk.old).seen.held rows.old rows.new }
@@ -80,7 +80,7 @@ fn read_ahead<'m, F: RangeFilter, D: Disk>(
     tables: &Tables<F>,
     blocks: u32,
 ) -> Result<u32, JobFault>
-    requires there { AreNumbersIn tables.now.tables (numbers rows.old.walks) }
+    requires there { AreWalksIn tables.now.tables (stands rows.old.walks) }
     ensures kept { KeepsRows D.tells tables.now.tables (D.world disk.old).seen.held rows.old rows.new }
     ensures within { IfOk result (λ left. left ≤ blocks) }
     ensures fewer { OnOk result (blocks_left tables.now.tables rows.new.walks ≤ blocks_left tables.now.tables rows.old.walks) }

@@ -7,7 +7,7 @@ use Rattle.std.proofs.lemmas.List.Elements.{All-append, All-from_recursion}
 use Rattle.std.proofs.lemmas.List.Sums.{fold-append}
 use Rattle.byteorder.specs.Endian.{little_bytes}
 use Rattle.byte_fields.specs.Spelling.{IsBytes}
-use Rattle.entry_model.specs.Entries.{IsEntry, put_entry, del_entry, changed, map_of}
+use Rattle.entry_model.specs.Entries.{IsLogged, put_entry, del_entry, changed, map_of}
 use Rattle.load_gen.specs.Generator.{next_number, loaded_key, step_of, number_after, first_steps}
 
 pub steps_counted : (seed n : ℕ) → length (first_steps seed n) ≡ n
@@ -51,35 +51,41 @@ low_bytes i (suc k) n = bytes_more (byte_at i n) (bytes_low_first (suc i) k n) (
 
 -- ---- entries
 
-put_sound : (x : ℕ) → IsEntry (put_entry (loaded_key x) (little_bytes 8 x))
+put_sound : (x : ℕ) → IsLogged (put_entry (loaded_key x) (little_bytes 8 x))
 put_sound x = record {
-  some_key = omega arith;
-  short_key = omega arith;
-  short_value = omega arith;
-  key_bytes = high_bytes 3 (x / 2 ^ 40);
-  value_bytes = low_bytes 0 8 x;
+  sound = record {
+    some_key = omega arith;
+    short_key = omega arith;
+    short_value = omega arith;
+    key_bytes = high_bytes 3 (x / 2 ^ 40);
+    value_bytes = low_bytes 0 8 x;
+  };
+  short = omega arith;
 }
 
-del_sound : (x : ℕ) → IsEntry (del_entry (loaded_key x))
+del_sound : (x : ℕ) → IsLogged (del_entry (loaded_key x))
 del_sound x = record {
-  some_key = omega arith;
-  short_key = omega arith;
-  short_value = omega arith;
-  key_bytes = high_bytes 3 (x / 2 ^ 40);
-  value_bytes = no_bytes;
+  sound = record {
+    some_key = omega arith;
+    short_key = omega arith;
+    short_value = omega arith;
+    key_bytes = high_bytes 3 (x / 2 ^ 40);
+    value_bytes = no_bytes;
+  };
+  short = omega arith;
 }
 
-step_sound : (x : ℕ) → IsEntry (step_of x)
-step_sound x = elim ((x / 2 ^ 32) % 8 == 0) as (λ t. IsEntry (cond t (del_entry (loaded_key x)) (put_entry (loaded_key x) (little_bytes 8 x)))) [
+step_sound : (x : ℕ) → IsLogged (step_of x)
+step_sound x = elim ((x / 2 ^ 32) % 8 == 0) as (λ t. IsLogged (cond t (del_entry (loaded_key x)) (put_entry (loaded_key x) (little_bytes 8 x)))) [
   | true ↦ del_sound x
   | false ↦ put_sound x
 ]
 
-pub steps_sound : (seed n : ℕ) → All IsEntry (first_steps seed n)
-steps_sound seed zero = All-from_recursion IsEntry [] tt
+pub steps_sound : (seed n : ℕ) → All IsLogged (first_steps seed n)
+steps_sound seed zero = All-from_recursion IsLogged [] tt
 steps_sound seed (suc n) =
-    All-append IsEntry (first_steps seed n) (step_of (number_after seed (suc n)) ∷ []) (steps_sound seed n)
-    (All-from_recursion IsEntry (step_of (number_after seed (suc n)) ∷ []) (step_sound (number_after seed (suc n)), tt))
+    All-append IsLogged (first_steps seed n) (step_of (number_after seed (suc n)) ∷ []) (steps_sound seed n)
+    (All-from_recursion IsLogged (step_of (number_after seed (suc n)) ∷ []) (step_sound (number_after seed (suc n)), tt))
 
 -- ---- one step more
 

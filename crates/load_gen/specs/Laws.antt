@@ -3,7 +3,7 @@ use Rattle.std.specs.Prelude.{◌≡◌, ◌≤◌, ◌<◌, ℕ, ◌%◌, ◌^�
 use Rattle.std.specs.List.{All}
 use Rattle.byteorder.specs.Endian.{little_bytes}
 use Rattle.map_model.specs.SortedMap.{Bytes, Map}
-use Rattle.entry_model.specs.Entries.{IsEntry}
+use Rattle.entry_model.specs.Entries.{IsLogged}
 use Rattle.load_gen.specs.Generator.{first_steps}
 use Rattle.load_gen.specs.Summary.{value_number, summary_of}
 
@@ -11,7 +11,7 @@ use Rattle.load_gen.specs.Summary.{value_number, summary_of}
 pub record StepLaws : Type 0 where
   pub count : (seed n : ℕ) → length (first_steps seed n) ≡ n
   pub prefix : (seed m n : ℕ) → m ≤ n → take m (first_steps seed n) ≡ first_steps seed m
-  pub sound : (seed n : ℕ) → All IsEntry (first_steps seed n)
+  pub sound : (seed n : ℕ) → All IsLogged (first_steps seed n)
 
 -- A summary tells the number of pairs, and the sum of all their numbers, modulo 2^64; the value of a step counts the number
 -- that it was made of.

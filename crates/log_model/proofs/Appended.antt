@@ -4,7 +4,7 @@ use Rattle.std.specs.Prelude.{flat_map}
 use Rattle.std.proofs.lemmas.Bool.{cases_eq}
 use Rattle.disk_trait.specs.Image.{Image, window, overwritten, Torn}
 use Rattle.disk_trait.proofs.Images.{window_kept, byte_kept, overwritten_at, whole, window_overwritten, window_split, window_size}
-use Rattle.entry_model.specs.Entries.{Entry, body, record_bytes, filled, need, IsEntry}
+use Rattle.entry_model.specs.Entries.{Entry, body, record_bytes, filled, need, IsLogged}
 use Rattle.log_model.specs.Area.{start_of, LogIs, WithOrWithout}
 use Rattle.log_model.proofs.Logs.{Stands, stands, logged, none_filled, filled_more, records_more, all_push, same_parts}
 
@@ -55,7 +55,7 @@ module _ (area : ℕ) (entries : List Entry) (entry : Entry) (bytes : List ℕ) 
   pub without : (f : Image) → Staged area entries entry f → WithOrWithout area entries entry f
   without f s = inl (logged area entries f s.log)
 
-  module _ (sound : IsEntry entry) (room : filled entries + need entry ≤ 262144) where
+  module _ (sound : IsLogged entry) (room : filled entries + need entry ≤ 262144) where
     with_it : (f g : Image) → Staged area entries entry f → Torn gate 1 f g → g gate ≡ 1 → LogIs area (entries ++ entry ∷ []) g
     with_it f g s torn one =
         let a = filled entries in
@@ -66,7 +66,7 @@ module _ (area : ℕ) (entries : List Entry) (entry : Entry) (bytes : List ℕ) 
         let behind_gate : window g (start_of area + a) (1 + b) ≡ record_bytes entry = cells g (start_of area + a) b (body entry) opened after in
         let next : start_of area + filled (entries ++ entry ∷ []) ≡ start_of area + a + 1 + b = omega (arith, filled_more entries entry) in
         logged area (entries ++ entry ∷ []) g (record {
-          sound = all_push IsEntry entries entry s.log.sound sound;
+          sound = all_push IsLogged entries entry s.log.sound sound;
           within = omega (arith, filled_more entries entry, room);
           records = ap (window g (start_of area)) (filled_more entries entry)
               ∙ window_split g (start_of area) a (1 + b)

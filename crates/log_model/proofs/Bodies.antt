@@ -3,7 +3,7 @@ use Rattle.std.proofs.Common.{◌≡◌, ◌⊎◌, inl, inr, ◌<◌, ◌≤◌
 use Rattle.std.specs.Prelude.{Option, Some, None, ◌==◌, ◌&&◌, ◌||◌, nat_lt, nat_le}
 use Rattle.std.proofs.lemmas.Bool.{eqb-true, eqb-false, eq-eqb, ne_eqb, ltb-false, leb-false, le-ltb, lt-leb, or_parts, and_cases, not-false}
 use Rattle.map_model.specs.SortedMap.{Bytes}
-use Rattle.entry_model.specs.Entries.{Entry, kind_of, bytes_of, body, IsEntry}
+use Rattle.entry_model.specs.Entries.{Entry, kind_of, bytes_of, body, IsLogged}
 use Rattle.entry_model.specs.Reading.{kind_in, key_length_in, value_length_in, width_in}
 use Rattle.entry_model.proofs.Bodies.{KeepsLimits, body_size, key_length_again, value_length_again, width_again}
 use Rattle.log_model.specs.Records.{breaks_a_limit, rule_if, broken_rule}
@@ -19,16 +19,16 @@ limits_kept None k v some short_key short_value is = rw (ne_eqb k 0 (λ e. omega
 passes : (bad : Bool) (rule : ℕ) (later : Option ℕ) → bad ≡ false → rule_if bad rule later ≡ later
 passes bad rule later e = ap (λ (t : Bool). rule_if t rule later) e
 
-pub unbroken : (entry : Entry) (rest : Bytes) → IsEntry entry → 0 < length rest → broken_rule (body entry ++ rest) ≡ None
+pub unbroken : (entry : Entry) (rest : Bytes) → IsLogged entry → 0 < length rest → broken_rule (body entry ++ rest) ≡ None
 unbroken entry rest sound some =
     let w = body entry ++ rest in
     let long = length-append (body entry) rest in
-    let key = key_length_again entry rest sound in
-    let value = value_length_again entry rest sound in
+    let key = key_length_again entry rest sound.sound in
+    let value = value_length_again entry rest sound.sound in
     passes (nat_lt (length w) 7) 1 _ (le-ltb (length w) 7 (omega (arith, long, body_size entry)))
     ∙ passes _ 2 _ (kind_kept entry.value)
-    ∙ passes _ 3 _ (limits_kept entry.value (key_length_in w) (value_length_in w) (omega (arith, key, sound.some_key)) (omega (arith, key, sound.short_key)) (omega (arith, value, sound.short_value)) value)
-    ∙ passes (nat_le (length w) (width_in w)) 1 None (lt-leb (length w) (width_in w) (omega (arith, width_again entry rest sound, long)))
+    ∙ passes _ 3 _ (limits_kept entry.value (key_length_in w) (value_length_in w) (omega (arith, key, sound.sound.some_key)) (omega (arith, key, sound.sound.short_key)) (omega (arith, value, sound.short)) value)
+    ∙ passes (nat_le (length w) (width_in w)) 1 None (lt-leb (length w) (width_in w) (omega (arith, width_again entry rest sound.sound, long)))
 
 refused_not : (bad : Bool) (rule : ℕ) (later : Option ℕ) → rule_if bad rule later ≡ None → (bad ≡ false) × (later ≡ None)
 refused_not true rule later e = absurd cc

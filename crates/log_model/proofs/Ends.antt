@@ -40,7 +40,7 @@ module _ (entry : Entry) (later : List Entry) (bytes : Bytes) (begins : BeginsWi
   cells = sym (take-append-drop (1 + length (body entry)) bytes) ∙ ap (λ (l : Bytes). l ++ drop (1 + length (body entry)) bytes) parts.0
 
   first_read : entry_in (drop 1 bytes) ≡ entry
-  first_read = ap (λ (l : Bytes). entry_in (drop 1 l)) cells ∙ entry_again entry (drop (1 + length (body entry)) bytes) begins.sound.0
+  first_read = ap (λ (l : Bytes). entry_in (drop 1 l)) cells ∙ entry_again entry (drop (1 + length (body entry)) bytes) begins.sound.0.sound
 
   goes_on : stop_in bytes ≡ None
   goes_on =

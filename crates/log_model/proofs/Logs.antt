@@ -6,7 +6,7 @@ use Rattle.std.proofs.lemmas.List.{append-nil, take_at, drop_at, take_more}
 use Rattle.std.proofs.lemmas.List.Concat.{flat_map-append}
 use Rattle.disk_trait.specs.Image.{Image, window, Torn}
 use Rattle.disk_trait.proofs.Images.{window_size, window_kept}
-use Rattle.entry_model.specs.Entries.{Entry, body, record_bytes, filled, need, IsEntry}
+use Rattle.entry_model.specs.Entries.{Entry, body, record_bytes, filled, need, IsLogged}
 use Rattle.log_model.specs.Records.{Spells}
 use Rattle.log_model.specs.Area.{area_size, start_of, LogIs}
 use Rattle.log_model.proofs.Windows.{take_window, byte_of_window}
@@ -48,7 +48,7 @@ all_push P (e ∷ more) entry all here = (all.0, all_push P more entry all.1 her
 
 -- the records of these entries stand in the area, and the gate behind them is not open
 pub record Stands (area : ℕ) (entries : List Entry) (image : Image) : Type 0 where
-  pub sound : AllByRecursion IsEntry entries
+  pub sound : AllByRecursion IsLogged entries
   pub within : filled entries < 262144
   pub records : window image (start_of area) (filled entries) ≡ flat_map record_bytes entries
   pub closed : image (start_of area + filled entries) ≢ 1

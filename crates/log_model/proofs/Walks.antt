@@ -6,7 +6,7 @@ use Rattle.std.proofs.Math.Seq.{take-add}
 use Rattle.byte_fields.specs.Spelling.{IsBytes}
 use Rattle.byte_fields.proofs.NumberLemmas.{IsBytes-drop}
 use Rattle.map_model.specs.SortedMap.{Bytes}
-use Rattle.entry_model.specs.Entries.{Entry, record_bytes, filled, IsEntry}
+use Rattle.entry_model.specs.Entries.{Entry, record_bytes, filled, IsLogged}
 use Rattle.entry_model.specs.Reading.{width_in, entry_in}
 use Rattle.entry_model.proofs.Bodies.{sound_read, size_read, body_read}
 use Rattle.log_model.specs.Records.{BeginsWith, broken_rule}
@@ -35,7 +35,7 @@ module _ (bytes : Bytes) (is_bytes : IsBytes bytes) (entries : List Entry) (at :
       let taken : take (1 + n) (1 ∷ rest) ≡ record_bytes entry = let one : 1 + n ≡ suc n = omega arith in ap (λ (k : ℕ). take k (1 ∷ rest)) one ∙ ap (λ (l : Bytes). 1 ∷ l) (sym (body_read rest rest_bytes (kept rest whole))) in
       let grouped : at + (1 + n) ≡ filled (entries ++ entry ∷ []) = filled_next in
       record {
-        sound = all_push IsEntry entries entry begins.sound (sound_read rest rest_bytes (kept rest whole));
+        sound = all_push IsLogged entries entry begins.sound (sound_read rest rest_bytes (kept rest whole));
         within = omega (arith, grouped, gate_is_there rest whole, length-drop (at + 1) bytes);
         records = ap (λ (k : ℕ). take k bytes) (sym grouped)
             ∙ take-add at (1 + n) bytes

@@ -3,7 +3,7 @@ use Rattle.std.specs.Prelude.{◌≡◌, ◌⊎◌, ℕ, ◌+◌, ◌*◌, ◌�
 use Rattle.key_base.specs.Limits.{log_bytes}
 use Rattle.disk_trait.specs.Image.{Image, window}
 use Rattle.map_model.specs.SortedMap.{Bytes}
-use Rattle.entry_model.specs.Entries.{Entry, body, filled, need, IsEntry}
+use Rattle.entry_model.specs.Entries.{Entry, body, filled, need, IsLogged}
 use Rattle.log_model.specs.Records.{Spells, Breaks}
 
 -- which area a log is in, and how many bytes its records take
@@ -38,5 +38,5 @@ LogBreaks area at rule image = (place : ℕ) × (at ≡ start_of area + place) �
 pub record IsNextRecord (area : ℕ) (entries : List Entry) (entry : Entry) (gate : ℕ) (bytes : Bytes) : Type 0 where
   pub here : gate ≡ start_of area + filled entries
   pub bytes_are : bytes ≡ body entry ++ 0 ∷ []
-  pub sound : IsEntry entry
+  pub sound : IsLogged entry
   pub room : filled entries + need entry ≤ log_bytes

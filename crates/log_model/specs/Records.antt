@@ -3,12 +3,12 @@ use Rattle.std.specs.Prelude.{◌≡◌, ◌≢◌, ℕ, ◌+◌, ◌<◌, List,
 use Rattle.std.specs.List.{AllByRecursion}
 use Rattle.key_base.specs.Limits.{is_no_key_length, max_logged_value_bytes}
 use Rattle.map_model.specs.SortedMap.{Bytes}
-use Rattle.entry_model.specs.Entries.{Entry, IsEntry, entry_head_bytes, record_bytes, filled}
+use Rattle.entry_model.specs.Entries.{Entry, IsLogged, entry_head_bytes, record_bytes, filled}
 use Rattle.entry_model.specs.Reading.{kind_in, key_length_in, value_length_in, width_in}
 
 -- the bytes begin with the records of these entries, and stand on behind them
 pub record BeginsWith (entries : List Entry) (bytes : Bytes) : Type 0 where
-  pub sound : AllByRecursion IsEntry entries
+  pub sound : AllByRecursion IsLogged entries
   pub within : filled entries < length bytes
   pub records : take (filled entries) bytes ≡ flat_map record_bytes entries
 

@@ -6,7 +6,7 @@ use Rattle.std.proofs.lemmas.Bool.{eq-eqb, eqb-false, eqb-true, le-ltb, ltb-fals
 use Rattle.byte_fields.specs.declared.parts.Row.{Row}
 use Rattle.block_model.specs.Pages.{pages_for}
 use Rattle.block_model.specs.Places.{FitsDevice, end_page}
-use Rattle.block_model.proofs.EntriesRead.{eqb_zero}
+use Rattle.block_model.proofs.OldEntriesRead.{eqb_zero}
 use Rattle.block_model.proofs.Refusals.{kept, neither, none_of, not_false, not_true, passed}
 use Rattle.extent_model.specs.Extents.{AreApart, IsOnDevice}
 use Rattle.extent_model.proofs.Lists.{Pairs, all_pairs, pairs_of}

@@ -14,7 +14,7 @@ use Rattle.byte_fields.proofs.NumberLemmas.{number_again}
 use Rattle.key_base.specs.Limits.{log_pages}
 use Rattle.map_model.specs.SortedMap.{Bytes}
 use Rattle.byte_fields.specs.Faults.{Fault}
-use Rattle.block_model.proofs.EntriesRead.{eqb_zero}
+use Rattle.block_model.proofs.OldEntriesRead.{eqb_zero}
 use Rattle.block_model.proofs.Refusals.{none_of, not_true, passed}
 use Rattle.block_model.proofs.TableIndex.{sum_below}
 use Rattle.filter_api.specs.Ranges.{IsRowInRange}

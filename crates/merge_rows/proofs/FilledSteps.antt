@@ -7,7 +7,7 @@ use Rattle.entry_model.specs.Newest.{KeysRise}
 use Rattle.merge_rows.specs.Choosing.{heads_of}
 use Rattle.merge_rows.specs.Merges.{Merge, TableWalk, left_above, merged_left, rows_left, sources_above}
 use Rattle.merge_rows.specs.Rows.{KeyFloor, above_floor, merged_rows, rows_shown}
-use Rattle.merge_rows.specs.Steps.{AreCaughtUp, AreHeadsClear, AreSoundWalks, HandsOutRow, IsCaughtUp, IsChosen, IsRowStep, IsSoundMerge, RowPasses, SourcesStay, numbers}
+use Rattle.merge_rows.specs.Steps.{AreCaughtUp, AreHeadsClear, AreSoundWalks, HandsOutRow, IsCaughtUp, IsChosen, IsRowStep, IsSoundMerge, RowPasses, SourcesStay, numbers, stands}
 use Rattle.merge_rows.proofs.RowSteps.{chosen_passes, step_rows, step_sound}
 use Rattle.table_file.specs.Opened.{Opened}
 use Rattle.table_file.specs.Walks.{first_of}
@@ -46,6 +46,7 @@ module _ (old mid new : Merge) (floor_is : mid.floor ≡ old.floor) (drops_are :
     pub filled_sources : SourcesStay tells tables image old new
     filled_sources = record {
       numbers_are = ap numbers (walks_stay ∙ walks_are);
+      stands_are = ap stands (walks_stay ∙ walks_are);
       drops_are = drops_stay ∙ drops_are;
       sound = λ t sound. step_sound tables image mid new memory_stays walks_stay chosen (caught_mid t) passes (sound_mid sound);
     }

@@ -9,7 +9,7 @@ use Rattle.entry_model.specs.Entries.{Entry}
 use Rattle.merge_rows.specs.Merges.{TableWalk, blocks_in, left_above, numbered, row_count, walk_left}
 use Rattle.merge_rows.specs.Reads.{IsFewer, IsRead, blocks_left, blocks_left_in, is_used_up, next_blocks, next_block_of, ones, wanted_by, wanted_block_of}
 use Rattle.merge_rows.specs.Rows.{KeyFloor, clears}
-use Rattle.merge_rows.specs.Steps.{AreCaughtUp, AreHeadsClear, AreSoundWalks, IsCaughtUp, IsHeadClear, IsSoundWalk, AreNumbersIn, number_of_walk, numbers}
+use Rattle.merge_rows.specs.Steps.{AreCaughtUp, AreHeadsClear, AreSoundWalks, AreWalksIn, HasRoomFor, IsCaughtUp, IsHeadClear, IsSoundWalk, number_of_walk, numbers, stand_of_walk, stands}
 use Rattle.table_file.specs.Opened.{Opened}
 use Rattle.table_file.specs.Walks.{is_due}
 
@@ -19,6 +19,7 @@ IsSoundHere floor tables image w = IsSoundWalk floor w.walk (blocks_in (numbered
 -- a walk that wanted none
 pub record Passed (tells : Type 0) (floor : KeyFloor) (tables : List Opened) (image : Image) (old new : TableWalk) : Type 0 where
   pub number : new.number ≡ old.number
+  pub room : new.walk.room ≡ old.walk.room
   pub same : tells → left_above floor tables image new ≡ left_above floor tables image old
   pub ready : tells → IsCaughtUp floor new.walk.now (walk_left tables image new)
   pub clear : IsHeadClear floor new.walk.now
@@ -88,6 +89,7 @@ passed_above tells floor tables image w above =
     let none : wanted_block_of floor tables w ≡ 0 = ap (λ (b : Bool). ones (b && is_due w.walk (row_count (numbered tables w.number)))) above in
     record {
       number = refl;
+      room = refl;
       same = λ t. refl;
       ready = λ t. above_caught floor w.walk.now (walk_left tables image w) above;
       clear = above_clear floor w.walk.now above;
@@ -196,6 +198,9 @@ module _ (tells : Type 0) (floor : KeyFloor) (tables : List Opened) (image : Ima
     abbrev set : List TableWalk
     set = slice_set now i x
 
+    pub set_stands : x.number ≡ here.number → x.walk.room ≡ here.walk.room → stands set ≡ stands old
+    set_stands same room = map_set stand_of_walk now i x d lt (ap₂ (λ (n r : ℕ). (n, r)) same room) ∙ went_map stand_of_walk (λ w y p. ap₂ (λ (n r : ℕ). (n, r)) p.number p.room) i old now went
+
     pub set_numbers : x.number ≡ here.number → numbers set ≡ numbers old
     set_numbers same = map_set number_of_walk now i x d lt same ∙ went_map number_of_walk (λ w y p. p.number) i old now went
 
@@ -235,7 +240,8 @@ module _ (tells : Type 0) (floor : KeyFloor) (tables : List Opened) (image : Ima
         let before = same_wanted t sound in
         omega (arith, most, before)
 
-pub number_here : (tables : List Opened) (walks : List TableWalk) (i : ℕ) (d : TableWalk) → i < length walks → AreNumbersIn tables (numbers walks) → (get_or walks i d).number < length tables
+pub number_here : (tables : List Opened) (walks : List TableWalk) (i : ℕ) (d : TableWalk) → i < length walks → AreWalksIn tables (stands walks)
+    → ((get_or walks i d).number < length tables) × HasRoomFor (numbered tables (get_or walks i d).number) (get_or walks i d).walk.room
 number_here tables [] i d lt all = absurd (omega (arith, lt))
 number_here tables (w ∷ more) zero d lt all = all.0
 number_here tables (w ∷ more) (suc i) d lt all = number_here tables more i d (omega (arith, lt)) all.1

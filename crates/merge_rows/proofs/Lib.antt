@@ -1,3 +1,4 @@
+pub mod Begins
 pub mod FirstFills
 pub mod Fills
 pub mod FilledSteps

@@ -177,6 +177,7 @@ rises_on (Some row) old new passes = rises_passed old new row.key passes.0 passe
 pub sources_then : (tells : Bool) (tables : List Opened) (image : Image) (a b c : Merge) → SourcesStay tells tables image a b → SourcesStay tells tables image b c → SourcesStay tells tables image a c
 sources_then tells tables image a b c one two = record {
   numbers_are = two.numbers_are ∙ one.numbers_are;
+  stands_are = two.stands_are ∙ one.stands_are;
   drops_are = two.drops_are ∙ one.drops_are;
   sound = λ t s. two.sound t (one.sound t s);
 }

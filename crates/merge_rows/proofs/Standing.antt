@@ -4,7 +4,6 @@ use Rattle.std.specs.Prelude.{Option, Some, None, bytes_eq}
 use Rattle.std.specs.List.{AllByRecursion}
 use Rattle.std.proofs.lemmas.Bool.{false≢true}
 use Rattle.std.proofs.lemmas.Slice.Eq.{bytes_eq-Decides}
-use Rattle.block_model.specs.Block.{IsBlock}
 use Rattle.block_model.specs.Laws.{joined}
 use Rattle.key_base.specs.ByteOrder.{is_before}
 use Rattle.block_model.specs.Order.{Follow, is_any}
@@ -14,6 +13,7 @@ use Rattle.entry_model.specs.Newest.{ComesBehind, KeysRise, entries_from, lookup
 use Rattle.entry_model.proofs.Newest.{above_lower, one_list}
 use Rattle.filter_api.specs.Spellings.{Spelling}
 use Rattle.map_model.specs.SortedMap.{Bytes, byte_order}
+use Rattle.table_file.proofs.Stands.{each_some}
 use Rattle.merge_rows.specs.Laws.{MergesAreWhole, NumberedStand, memory_entries}
 use Rattle.merge_rows.specs.Merges.{TableWalk, blocks_in, left_above, memory_from, numbered, walk_at, walk_left, with_hand}
 use Rattle.merge_rows.specs.Rows.{KeyFloor, above_floor, clears, merged_rows, rows_shown}
@@ -104,10 +104,6 @@ follow_rises : (entries : List Entry) → Follow is_any (keys_of entries) → Ke
 follow_rises [] follow = tt
 follow_rises (e ∷ later) follow = (follow_above e.key later follow.1)
 
-each_some : (blocks : List (List Entry)) → AllByRecursion IsBlock blocks → AllByRecursion (λ (block : List Entry). 1 ≤ length block) blocks
-each_some [] each = tt
-each_some (block ∷ more) each = (each.0.some, each_some more each.1)
-
 abbrev floor_at : Bytes → KeyFloor
 floor_at low = record { key = low; passed = false }
 
@@ -135,7 +131,7 @@ module _ (blocks_law : StandingBlocks) (walks_law : StandingWalks) (spelling : S
       (subst (IsSoundWalk (floor_at low) (walk_from t low)) (sym on_device) (record {
         rises = subst KeysRise (sym (whole.all low)) (rises_cut (floor_at low) (joined blocks) rising);
         clear = subst (Clear (floor_at low)) (sym (whole.all low)) (cut_clears (floor_at low) (joined blocks));
-        some = each_some blocks stand.2.at.each;
+        some = each_some spelling t blocks image stand.2;
         begins = whole.begins low;
       }))
 

@@ -22,6 +22,7 @@ pub stays_since : (tells : Bool) (tables : List Opened) (image : Image) (a b c :
 stays_since tells tables image a b c one two = record {
   sources = record {
     numbers_are = two.sources.numbers_are ∙ one.sources.numbers_are;
+    stands_are = two.sources.stands_are ∙ one.sources.stands_are;
     drops_are = two.sources.drops_are ∙ one.sources.drops_are;
     sound = λ t s. let is = two.sources.sound t (sound_too tables image b (one.sources.sound t s)) in record {
       memory = is.memory;

@@ -5,7 +5,7 @@ use Rattle.disk_trait.specs.World.{ReadMoves, World}
 use Rattle.merge_rows.specs.Merges.{TableWalk, left_above}
 use Rattle.merge_rows.specs.Reads.{IsFewer, IsRead, SomeBlock, blocks_left, next_blocks, wanted_by}
 use Rattle.merge_rows.specs.Rows.{KeyFloor}
-use Rattle.merge_rows.specs.Steps.{AreCaughtUp, AreHeadsClear, AreSoundWalks, numbers}
+use Rattle.merge_rows.specs.Steps.{AreCaughtUp, AreHeadsClear, AreSoundWalks, numbers, stands}
 use Rattle.table_file.specs.Faults.{HasReadCause, IsNoWant}
 use Rattle.table_file.specs.Opened.{Opened}
 use Rattle.table_file.specs.Search.{IsGetFault, page_at}
@@ -14,6 +14,7 @@ use Rattle.table_file.specs.declared.fault.TableFault.{TableFault}
 -- A block was read for one of the walks, or none of them wanted one, or the read was refused with its cause.
 pub record FillsWalks (tells : Bool) (floor : KeyFloor) (tables : List Opened) (old new : List TableWalk) (result : Result Bool TableFault) (before after : World) : Type 0 where
   pub numbers_are : numbers new ≡ numbers old
+  pub stands_are : stands new ≡ stands old
   -- above the floor no entry is lost, however it ends
   pub same : IsTrue tells → map (left_above floor tables before.seen.held) new ≡ map (left_above floor tables before.seen.held) old
   -- where none was read, each walk has an entry above the floor at hand, or none is left of it

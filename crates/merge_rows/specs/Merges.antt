@@ -61,7 +61,7 @@ rows_left m tables image = rows_shown m.drops (merged_left m tables image)
 -- ---- a merge from a bound on
 
 abbrev pub walk_at : Option Opened → Bytes → CursorWalk
-walk_at None low = record { bound = Some low; block = 0; now = None; later = [] }
+walk_at None low = record { room = 0; bound = Some low; block = 0; now = None; later = [] }
 walk_at (Some t) low = walk_from t low
 
 abbrev pub memory_from : Option (List Entry) → Bytes → List Entry

@@ -10,7 +10,7 @@ use Rattle.merge_rows.specs.Merges.{Merge, TableWalk, blocks_in, left_above, mer
 use Rattle.merge_rows.specs.Reads.{blocks_left, next_blocks, wanted_by}
 use Rattle.merge_rows.specs.Rows.{KeyFloor, clears}
 use Rattle.table_file.specs.Opened.{Opened}
-use Rattle.table_file.specs.Walks.{BeginsWell, CursorWalk, to_come}
+use Rattle.table_file.specs.Walks.{BeginsWell, CursorWalk, most_block_pages, to_come}
 
 abbrev pub number_of_walk : TableWalk → ℕ
 number_of_walk w = w.number
@@ -21,6 +21,21 @@ numbers walks = map number_of_walk walks
 -- each number is that of a table
 abbrev pub AreNumbersIn : List Opened → List ℕ → Type 0
 AreNumbersIn tables all = AllByRecursion (λ number. number < length tables) all
+
+-- a walk's number, and for how many pages of a block it has room: no step changes them
+abbrev pub stand_of_walk : TableWalk → ℕ × ℕ
+stand_of_walk w = (w.number, w.walk.room)
+
+abbrev pub stands : List TableWalk → List (ℕ × ℕ)
+stands walks = map stand_of_walk walks
+
+-- a number is that of a table, and there is room for the largest block of that one
+abbrev pub HasRoomFor : Option Opened → ℕ → Type 0
+HasRoomFor None room = ⊥
+HasRoomFor (Some t) room = most_block_pages t.index.rows ≤ room
+
+abbrev pub AreWalksIn : List Opened → List (ℕ × ℕ) → Type 0
+AreWalksIn tables all = AllByRecursion (λ stand. (stand.0 < length tables) × HasRoomFor (numbered tables stand.0) stand.1) all
 
 -- an entry above the floor is at hand, or none is left
 abbrev pub IsCaughtUp : KeyFloor → Option Entry → List Entry → Type 0
@@ -77,6 +92,7 @@ RowPasses (Some row) old new = (clears old row.key ≡ true) × (new ≡ passed_
 -- the same tables, and what is left is as sound as it was
 pub record SourcesStay (tells : Bool) (tables : List Opened) (image : Image) (old new : Merge) : Type 0 where
   pub numbers_are : numbers new.walks ≡ numbers old.walks
+  pub stands_are : stands new.walks ≡ stands old.walks
   pub drops_are : new.drops ≡ old.drops
   pub sound : IsTrue tells → IsSoundMerge old tables image → IsSoundMerge new tables image
 
@@ -117,6 +133,7 @@ pub record IsPaced (tables : List Opened) (image : Image) (old new : Merge) : Ty
 -- Above the floor the same is left of each walk, and no block was read.
 pub record IsPassed (tells : Bool) (floor : KeyFloor) (tables : List Opened) (image : Image) (old new : List TableWalk) : Type 0 where
   pub numbers_are : numbers new ≡ numbers old
+  pub stands_are : stands new ≡ stands old
   pub same : IsTrue tells → map (left_above floor tables image) new ≡ map (left_above floor tables image) old
   pub sound : IsTrue tells → AreSoundWalks floor tables image old → AreSoundWalks floor tables image new
   pub next : next_blocks new ≡ next_blocks old

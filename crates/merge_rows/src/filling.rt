@@ -2,7 +2,7 @@
 ghost use Rattle.disk_trait.specs.World.{ReadMoves};
 ghost use Rattle.merge_rows.specs.Filling.{FillsWalks};
 ghost use Rattle.merge_rows.specs.SourcePlaces.{IsChosenIn};
-ghost use Rattle.merge_rows.specs.Steps.{AreNumbersIn, IsPassed, numbers};
+ghost use Rattle.merge_rows.specs.Steps.{AreWalksIn, IsPassed, stands};
 
 use crate::choosing::Source;
 use crate::floor::Floor;
@@ -21,7 +21,7 @@ pub(crate) fn fill_behind<F: RangeFilter, D: Disk>(
     tables: &Tables<F>,
     floor: &Floor,
 ) -> Result<bool, TableFault>
-    requires known { AreNumbersIn tables.now.tables (numbers walks.old) }
+    requires known { AreWalksIn tables.now.tables (stands walks.old) }
     requires there { IsChosenIn row walks.old }
     ensures { FillsWalks D.tells floor.now tables.now.tables walks.old walks.new result (D.world disk.old) (D.world disk.new) }
 {
@@ -37,7 +37,7 @@ fn pass_row<F: RangeFilter, D: Disk>(
     tables: &Tables<F>,
     floor: &Floor,
 )
-    requires known { AreNumbersIn tables.now.tables (numbers walks.old) }
+    requires known { AreWalksIn tables.now.tables (stands walks.old) }
     requires there { IsChosenIn row walks.old }
     ensures passed { IsPassed D.tells floor.now tables.now.tables (D.world disk.old).seen.held walks.old walks.new }
     ensures moves { ReadMoves 0 (D.world disk.old) (D.world disk.new) }

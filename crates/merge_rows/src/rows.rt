@@ -11,7 +11,7 @@ ghost use Rattle.entry_model.specs.Newest.{KeysRise};
 ghost use Rattle.merge_rows.specs.Choosing.{heads_of};
 ghost use Rattle.merge_rows.specs.Merges.{TableWalk, merge_from, merged_left, numbered, rows_left, walk_at};
 ghost use Rattle.merge_rows.specs.Reads.{IsFewer, IsRead, OnlyReads, SomeBlock, blocks_left, next_blocks, wanted};
-ghost use Rattle.merge_rows.specs.Steps.{AreCaughtUp, AreHeadsClear, AreNumbersIn, HandsOutRow, IsCaughtUp, IsChosen, IsFaultStep, IsPaced, IsRowStep, IsSoundMerge, RowPasses, SourcesStay, StaysAt, numbers};
+ghost use Rattle.merge_rows.specs.Steps.{AreCaughtUp, AreHeadsClear, AreNumbersIn, AreWalksIn, HandsOutRow, IsCaughtUp, IsChosen, IsFaultStep, IsPaced, IsRowStep, IsSoundMerge, RowPasses, SourcesStay, StaysAt, numbers, stands};
 ghost use Rattle.merge_rows.specs.Rows.{above_floor};
 ghost use Rattle.table_file.specs.Faults.{HasReadCause, IsNoWant};
 ghost use Rattle.table_file.specs.Opened.{Opened};
@@ -92,7 +92,7 @@ impl<'m> MergeRows<'m> {
         disk: &mut D,
         tables: &Tables<F>,
     ) -> Result<Option<(&[u8], Option<&[u8]>)>, TableFault>
-        requires { AreNumbersIn tables.now.tables (numbers self.old.walks) }
+        requires { AreWalksIn tables.now.tables (stands self.old.walks) }
         ensures* after { sem 𝓛 (merge_ends self.entry (λ m. SourcesStay D.tells tables.now.tables (D.world disk.old).seen.held self.old m
             × (MatchResult result (λ _. IsRowStep D.tells tables.now.tables (D.world disk.old).seen.held self.old m) (λ _. IsFaultStep D.tells tables.now.tables (D.world disk.old).seen.held self.old m))
             × IfOk result (λ found. option_map (λ f. entry_of f.0.now (option_map (λ v. v.now) f.1)) found ≡ m.now)
@@ -135,7 +135,7 @@ impl<'m> MergeRows<'m> {
         disk: &mut D,
         tables: &Tables<F>,
     ) -> Result<bool, TableFault>
-        requires { AreNumbersIn tables.now.tables (numbers self.old.walks) }
+        requires { AreWalksIn tables.now.tables (stands self.old.walks) }
         ensures said { IfOk result (λ some. some ≡ is_some self.new.now) }
         ensures kept { SourcesStay D.tells tables.now.tables (D.world disk.old).seen.held self.old self.new }
         ensures row { OnOk result (IsRowStep D.tells tables.now.tables (D.world disk.old).seen.held self.old self.new) }
@@ -177,7 +177,7 @@ impl<'m> MergeRows<'m> {
         disk: &mut D,
         tables: &Tables<F>,
     ) -> Result<bool, TableFault>
-        requires { AreNumbersIn tables.now.tables (numbers self.old.walks) }
+        requires { AreWalksIn tables.now.tables (stands self.old.walks) }
         ensures stays { StaysAt D.tells tables.now.tables (D.world disk.old).seen.held self.old self.new }
         ensures memory { self.new.memory ≡ self.old.memory }
         ensures ready { IsTrue D.tells → IfOk result (λ read. read ≡ false → AreCaughtUp self.old.floor tables.now.tables (D.world disk.old).seen.held self.new.walks) }
@@ -241,7 +241,7 @@ impl<'m> MergeRows<'m> {
         disk: &mut D,
         tables: &Tables<F>,
     ) -> Result<bool, TableFault>
-        requires { AreNumbersIn tables.now.tables (numbers self.old.walks) }
+        requires { AreWalksIn tables.now.tables (stands self.old.walks) }
         ensures said { IfOk result (λ some. some ≡ is_some self.new.now) }
         ensures kept { SourcesStay D.tells tables.now.tables (D.world disk.old).seen.held self.old self.new }
         ensures rows { IsTrue D.tells → IsSoundMerge self.old tables.now.tables (D.world disk.old).seen.held
@@ -285,7 +285,7 @@ impl<'m> MergeRows<'m> {
         disk: &mut D,
         tables: &Tables<F>,
     ) -> Result<(), TableFault>
-        requires { AreNumbersIn tables.now.tables (numbers self.old.walks) }
+        requires { AreWalksIn tables.now.tables (stands self.old.walks) }
         ensures stays { StaysAt D.tells tables.now.tables (D.world disk.old).seen.held self.old self.new }
         ensures memory { IsCaughtUp self.old.floor (first_of self.new.memory) self.new.memory }
         ensures ready { IsTrue D.tells → OnOk result (AreCaughtUp self.old.floor tables.now.tables (D.world disk.old).seen.held self.new.walks) }

@@ -11,10 +11,10 @@ ghost use Rattle.merge_rows.specs.Leads.{key_at_hand, lead_of};
 ghost use Rattle.merge_rows.specs.Merges.{blocks_in, left_above, numbered, walk_at, walk_left, with_hand};
 ghost use Rattle.merge_rows.specs.Reads.{BlockOf, IsFewer, IsRead, blocks_left_in, is_used_up, wanted_block_of};
 ghost use Rattle.merge_rows.specs.Rows.{above_floor};
-ghost use Rattle.merge_rows.specs.Steps.{AreNumbersIn, IsCaughtUp, IsHeadClear, IsPassed, IsSoundWalk, numbers};
+ghost use Rattle.merge_rows.specs.Steps.{AreWalksIn, HasRoomFor, IsCaughtUp, IsHeadClear, IsPassed, IsSoundWalk, numbers, stands};
 ghost use Rattle.table_file.specs.Faults.{HasReadCause, IsNoWant};
 ghost use Rattle.table_file.specs.Search.{IsGetFault, page_at};
-ghost use Rattle.table_file.specs.Walks.{blocks_on, is_due, to_come};
+ghost use Rattle.table_file.specs.Walks.{blocks_on, is_due, most_block_pages, to_come};
 
 use crate::floor::Floor;
 use crate::leads::{compare_alike, lead_of};
@@ -139,6 +139,8 @@ impl TableSource {
         table: &Table<F>,
         floor: &Floor,
     ) -> bool
+        requires { most_block_pages table.now.index.rows ≤ self.old.walk.room }
+        ensures room { self.new.walk.room ≡ self.old.walk.room }
         ensures number { self.new.number ≡ self.old.number }
         ensures same { IsTrue D.tells → above_floor floor.now (with_hand self.new.walk.now (to_come self.new.walk (blocks_on table.now (D.world disk.old).seen.held)))
             ≡ above_floor floor.now (with_hand self.old.walk.now (to_come self.old.walk (blocks_on table.now (D.world disk.old).seen.held))) }
@@ -172,8 +174,10 @@ impl TableSource {
 
     // Passes over the entries in memory that are not above the floor. No read and no memory.
     fn pass<F: RangeFilter, D: Disk>(&mut self, disk: &mut D, tables: &Tables<F>, floor: &Floor)
-        requires { self.old.number < length tables.now.tables }
+        requires there { self.old.number < length tables.now.tables }
+        requires room { HasRoomFor (numbered tables.now.tables self.old.number) self.old.walk.room }
         ensures number { self.new.number ≡ self.old.number }
+        ensures room { self.new.walk.room ≡ self.old.walk.room }
         ensures same { IsTrue D.tells → left_above floor.now tables.now.tables (D.world disk.old).seen.held self.new ≡ left_above floor.now tables.now.tables (D.world disk.old).seen.held self.old }
         ensures sound { IsTrue D.tells → IsSoundWalk floor.now self.old.walk (blocks_in (numbered tables.now.tables self.old.number) (D.world disk.old).seen.held)
             → IsSoundWalk floor.now self.new.walk (blocks_in (numbered tables.now.tables self.old.number) (D.world disk.old).seen.held) }
@@ -200,8 +204,10 @@ impl TableSource {
         tables: &Tables<F>,
         floor: &Floor,
     ) -> Result<bool, TableFault>
-        requires { self.old.number < length tables.now.tables }
+        requires there { self.old.number < length tables.now.tables }
+        requires room { HasRoomFor (numbered tables.now.tables self.old.number) self.old.walk.room }
         ensures number { self.new.number ≡ self.old.number }
+        ensures room { self.new.walk.room ≡ self.old.walk.room }
         ensures same { IsTrue D.tells → left_above floor.now tables.now.tables (D.world disk.old).seen.held self.new ≡ left_above floor.now tables.now.tables (D.world disk.old).seen.held self.old }
         ensures ready { IsTrue D.tells → IfOk result (λ read. read ≡ false → IsCaughtUp floor.now self.new.walk.now (walk_left tables.now.tables (D.world disk.old).seen.held self.new)) }
         ensures clear { IfOk result (λ read. read ≡ false → IsHeadClear floor.now self.new.walk.now) }
@@ -239,7 +245,7 @@ pub(crate) fn pass_one<F: RangeFilter, D: Disk>(
     tables: &Tables<F>,
     floor: &Floor,
 )
-    requires known { AreNumbersIn tables.now.tables (numbers walks.old) }
+    requires known { AreWalksIn tables.now.tables (stands walks.old) }
     requires there { at < length walks.old }
     ensures passed { IsPassed D.tells floor.now tables.now.tables (D.world disk.old).seen.held walks.old walks.new }
     ensures moves { ReadMoves 0 (D.world disk.old) (D.world disk.new) }
@@ -257,7 +263,7 @@ pub(crate) fn fill_first<F: RangeFilter, D: Disk>(
     tables: &Tables<F>,
     floor: &Floor,
 ) -> Result<bool, TableFault>
-    requires { AreNumbersIn tables.now.tables (numbers walks.old) }
+    requires { AreWalksIn tables.now.tables (stands walks.old) }
     ensures { FillsWalks D.tells floor.now tables.now.tables walks.old walks.new result (D.world disk.old) (D.world disk.new) }
 {
     for i in 0..walks.len() {

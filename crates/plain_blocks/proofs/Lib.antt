@@ -1,1 +1,2 @@
-pub mod PrefixedLoops
+pub mod Loops
+pub mod OldLoops

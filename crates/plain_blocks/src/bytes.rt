@@ -1,21 +1,17 @@
-//! The bytes of blocks and of an index.
+//! The bytes of a table's blocks and of its index.
 ghost use Rattle.std.specs.Prelude.{◌≡◌, ◌-◌, ◌*◌, ◌^◌, ◌<◌, ◌≤◌, ◌++◌, [], ◌∷◌, IfOk, OnOk, length, map, replicate, vec_items};
 ghost use Rattle.std.specs.List.{AllByRecursion};
-ghost use Rattle.entry_model.specs.Entries.{body};
-ghost use Rattle.block_model.specs.Block.{AreEntries, block_bytes, data_bytes};
+ghost use Rattle.block_model.specs.Block.{AreEntries, data_bytes};
 ghost use Rattle.block_model.specs.Index.{index_bytes, index_of, index_row_bytes, index_row_of};
 ghost use Rattle.block_model.specs.Pages.{first_key, last_key, page_bytes, pages_for};
 
-use crate::pages::{block_length, cut};
+use crate::pages::cut;
+use crate::spelled::{block_bytes, block_length, push_block};
 use block_model::pages_for;
 use byte_fields::{fnv1a, push_fields};
 use entry_list::Entry;
 use key_base::PAGE_BYTES;
 use std::alloc::{AllocError, Global};
-
-const ENTRY_WIDTHS: [usize; 3] = [1, 2, 4];
-
-const HEADER_WIDTHS: [usize; 3] = [4, 1, 3];
 
 const INDEX_HEAD_WIDTHS: [usize; 3] = [4, 4, 2];
 
@@ -23,16 +19,6 @@ const INDEX_ROW_WIDTHS: [usize; 3] = [4, 8, 2];
 
 // `SRFI`.
 const INDEX_MAGIC: u64 = 0x49465253;
-
-/// The bytes of a block, in whole pages.
-pub fn block_bytes(alloc: Global, block: &[Entry]) -> Result<Vec<u8>, AllocError>
-    requires { AreEntries block.now }
-    ensures { IfOk result (λ bytes. bytes.items ≡ block_bytes block.now) }
-{
-    let mut out = Vec::new(alloc);
-    push_block(block, &mut out)?;
-    Ok(out)
-}
 
 /// The bytes of a table's blocks, one after the other.
 pub fn data_bytes(alloc: Global, entries: &[Entry]) -> Result<Vec<u8>, AllocError>
@@ -47,23 +33,10 @@ pub fn data_bytes(alloc: Global, entries: &[Entry]) -> Result<Vec<u8>, AllocErro
     Ok(out)
 }
 
-#[tactic(auto, unfolding(block_model::specs::Block::block_bytes, block_model::specs::Block::header_bytes, block_model::specs::Block::padding))]
-fn push_block(block: &[Entry], out: &mut Vec<u8>) -> Result<(), AllocError>
-    requires { AreEntries block.now }
-    ensures { OnOk result (out.new.items ≡ out.old.items ++ block_bytes block.now) }
-{
-    let used = block_length(block);
-    push_fields(&HEADER_WIDTHS, &[used, block.len() as u64, 0], out)?;
-    for entry in block {
-        push_body(entry, out)?;
-    }
-    push_zeros(left_in_page(used), out)
-}
-
 // How many bytes are left of the last page.
 #[tactic(auto, unfolding(block_model::specs::Pages::pages_for))]
 pub(crate) fn left_in_page(used: u64) -> u64
-    requires { used < 2 ^ 49 }
+    requires { used < 2 ^ 53 }
     ensures { result ≡ page_bytes * pages_for used - used }
 {
     PAGE_BYTES as u64 * pages_for(used) - used
@@ -76,28 +49,6 @@ pub(crate) fn push_zeros(count: u64, out: &mut Vec<u8>) -> Result<(), AllocError
         out.push(0)?;
     }
     Ok(())
-}
-
-/// Appends what a block and a log have of an entry: its kind, the lengths of key and value, the key and the value.
-pub fn push_body(entry: &Entry, out: &mut Vec<u8>) -> Result<(), AllocError>
-    ensures { OnOk result (out.new.items ≡ out.old.items ++ body entry.now) }
-{
-    let key = entry.key();
-    match entry.value() {
-        Some(value) => {
-            push_fields(
-                &ENTRY_WIDTHS,
-                &[1, key.len() as u64, value.len() as u64],
-                out,
-            )?;
-            out.extend_from_slice(key)?;
-            out.extend_from_slice(value)
-        }
-        None => {
-            push_fields(&ENTRY_WIDTHS, &[2, key.len() as u64, 0], out)?;
-            out.extend_from_slice(key)
-        }
-    }
 }
 
 /// The bytes of a table's index.

@@ -4,7 +4,8 @@ ghost use Rattle.block_model.specs.Block.{AreEntries};
 ghost use Rattle.block_model.specs.Pages.{data_pages, index_length};
 
 use crate::bytes::{first_key, last_key};
-use crate::pages::{block_length, cut};
+use crate::pages::cut;
+use crate::spelled::block_length;
 use block_model::pages_for;
 use entry_list::Entry;
 use std::alloc::{AllocError, Global};

@@ -6,21 +6,22 @@
 //!
 //! ```text
 //! entries             a with the value b, and a tombstone of ab
-//! block_length        26: a header of 8 bytes, 9 bytes and 9 bytes
+//! block_length        31: a header of 8 bytes, a list of 2, 11 bytes and 10 bytes
 //! data_pages          1
 //! index_length        27: a head of 11 bytes and a row of 16
 //! ```
 //!
-//! [`prefixed_block_bytes`] spells a block of the second format, whose entries share prefixes: 31 bytes for these two.
-//! [`are_prefixed_entries`] tests what it asks. No store writes it yet.
+//! [`old_block_bytes`] spells a block of the first format, which is read and no longer written.
 #![tactic(auto)]
 
 mod bytes;
 mod counts;
+mod old;
 mod pages;
-mod prefixed;
+mod spelled;
 
-pub use bytes::{block_bytes, data_bytes, first_key, index_bytes, last_key, push_body};
+pub use bytes::{data_bytes, first_key, index_bytes, last_key};
 pub use counts::{data_pages, index_length};
-pub use pages::{are_entries, block_length, cut, entry_length};
-pub use prefixed::{are_prefixed_entries, prefixed_block_bytes, prefixed_block_length};
+pub use old::{old_block_bytes, push_body};
+pub use pages::{are_entries, cut};
+pub use spelled::{block_bytes, block_length};

@@ -16,10 +16,9 @@ use crate::placing::{placed, taken, taken_without};
 use crate::state::State;
 use crate::table::Table;
 use crate::view::newest_entries;
-use entry_list::{Entry, copied, push_copy};
+use entry_list::{Entry, body_length, copied, push_copy};
 use filter_api::RangeFilter;
 use key_base::{LOG_BYTES, MAX_LEVEL, MAX_TABLES};
-use plain_blocks::entry_length;
 use std::alloc::{AllocError, Global};
 
 /// Why a change is refused.
@@ -126,7 +125,11 @@ fn record_length(entry: &Entry) -> Result<u64, AllocError>
     if !entry.is_sound() {
         return Err(AllocError);
     }
-    Ok(1 + entry_length(entry))
+    let value = match entry.value() {
+        Some(bytes) => bytes.len(),
+        None => 0,
+    };
+    Ok(1 + body_length(entry.key().len(), value) as u64)
 }
 
 // The bytes that the log's records take.

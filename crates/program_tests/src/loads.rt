@@ -213,7 +213,7 @@ fn the_summary_meets_a_fault_and_damage(rt: HostRuntime) -> Result<(), Fail> {
     let mut damaged = disk_of(alloc, first.bytes())?;
     damaged.write(786_440, &[3])?;
     let told = commanded(alloc, "load --seed 1 --count 1", damaged)?;
-    let sums = b"damaged block 786432 sum eba7fa7c4d3d0fad 48e5c0a5221a7b73\n";
+    let sums = b"damaged block 786432 sum 587b62ad428b4221 1330a17f9fbb1d44\n";
     check(&rt, &told, 5, sums, 1);
     let whole = commanded(alloc, "load --seed 1 --count 1", first)?;
     let line = b"load steps 1 refused 0 live 2 sum 6c576fac43fd00de\n";

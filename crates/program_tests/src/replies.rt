@@ -120,8 +120,9 @@ fn the_limits_of_keys_and_values(rt: HostRuntime) -> Result<(), Fail> {
     Ok(())
 }
 
-// The block of one pair begins with 11 00 00 00 01 00 00 00 01 01 00 01 00 00 00 61 62; the sums are those of its 4,096 bytes as
-// they were written, and with the ninth changed from 01 to 03. Each run makes the same reads to open, and the last reads one block.
+// The block of one pair begins with 15 00 00 00 01 02 00 00 0a 00 01 00 00 01 00 01 00 00 00 61 62; the sums are those of its
+// 4,096 bytes as they were written, and with the ninth changed from 0a to 03. Each run makes the same reads to open, and the
+// last reads one block.
 #[test]
 fn a_damaged_block_is_told_where_it_is_read(rt: HostRuntime) -> Result<(), Fail> {
     let alloc = rt.alloc();
@@ -132,7 +133,7 @@ fn a_damaged_block_is_told_where_it_is_read(rt: HostRuntime) -> Result<(), Fail>
     check(&rt, &none, 0, b"none\n", 0);
     let opening = none.disk.reads().saturating_sub(reads);
     let told = served(alloc, none.disk, b"get 61\nget 7a\n")?;
-    let sums = b"damaged block 786432 sum eba7fa7c4d3d0fad 48e5c0a5221a7b73\n";
+    let sums = b"damaged block 786432 sum 587b62ad428b4221 1330a17f9fbb1d44\n";
     check(&rt, &told, 5, sums, 1);
     let read = told.disk.reads().saturating_sub(reads);
     assert_eq!(rt; read, opening.saturating_mul(2).saturating_add(1));

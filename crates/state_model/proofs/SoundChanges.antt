@@ -10,7 +10,7 @@ use Rattle.key_base.specs.Limits.{last_epoch, max_tables}
 use Rattle.state_model.proofs.Outputs.{placed_lists}
 use Rattle.filter_api.specs.declared.settings.Settings.{Settings}
 use Rattle.filter_api.specs.Ranges.{InRange}
-use Rattle.entry_model.specs.Entries.{Entry, body, filled, need, gap, IsEntry}
+use Rattle.entry_model.specs.Entries.{Entry, body, filled, need, gap, IsLogged}
 use Rattle.block_model.specs.Block.{IsTable}
 use Rattle.state_model.specs.State.{State, Job, new_state}
 use Rattle.table_model.specs.Tables.{FilterBytes, Table}
@@ -192,13 +192,13 @@ job_logged filter_bytes s entry (Some job) is = record {
   written = is.written;
 }
 
-logged_sound : (filter_bytes : FilterBytes) (s : State) (entry : Entry) → IsSound filter_bytes s → IsEntry entry → filled s.log + length (body entry) + 1 < 262144 → IsSound filter_bytes (logged s entry)
+logged_sound : (filter_bytes : FilterBytes) (s : State) (entry : Entry) → IsSound filter_bytes s → IsLogged entry → filled s.log + length (body entry) + 1 < 262144 → IsSound filter_bytes (logged s entry)
 logged_sound filter_bytes s entry sound is room = record {
   settings = sound.settings;
   ratio = sound.ratio;
   device = sound.device;
   epoch = sound.epoch;
-  log = all_append IsEntry s.log (entry ∷ []) sound.log (is, tt);
+  log = all_append IsLogged s.log (entry ∷ []) sound.log (is, tt);
   log_fits = omega (arith, filled_with s.log entry);
   few = sound.few;
   tables = sound.tables;
@@ -208,22 +208,22 @@ logged_sound filter_bytes s entry sound is room = record {
   job = job_logged filter_bytes s entry s.job sound.job;
 }
 
-body_bound : (entry : Entry) → IsEntry entry → length (body entry) ≤ 66567
-body_bound entry is = omega (arith, length-body entry, is.short_key, is.short_value)
+body_bound : (entry : Entry) → IsLogged entry → length (body entry) ≤ 66567
+body_bound entry is = omega (arith, length-body entry, is.sound.short_key, is.short)
 
 room_left : (s : State) (entry : Entry) → need entry ≤ gap s.log → filled s.log + length (body entry) + 1 < 262144
 unfolding gap
 room_left s entry fits = omega arith
 
-logged_then_sound : (filter_bytes : FilterBytes) (entry : Entry) (done : Result State Reply) → IsEntry entry → IfSound filter_bytes done → IfEmpty done → IfSound filter_bytes (logged_then entry done)
+logged_then_sound : (filter_bytes : FilterBytes) (entry : Entry) (done : Result State Reply) → IsLogged entry → IfSound filter_bytes done → IfEmpty done → IfSound filter_bytes (logged_then entry done)
 logged_then_sound filter_bytes entry (Err refusal) is sound empty = tt
 logged_then_sound filter_bytes entry (Ok t) is sound empty = logged_sound filter_bytes t entry sound is (omega (arith, ap filled empty, filled_none, body_bound entry is))
 
-pub written_done : (filter_bytes : FilterBytes) (s : State) (entry : Entry) → IsSound filter_bytes s → IsEntry entry → IfSound filter_bytes (written filter_bytes s entry)
+pub written_done : (filter_bytes : FilterBytes) (s : State) (entry : Entry) → IsSound filter_bytes s → IsLogged entry → IfSound filter_bytes (written filter_bytes s entry)
 written_done filter_bytes s entry sound is = elim (nat_le (need entry) (gap s.log)) as (λ b. nat_le (need entry) (gap s.log) ≡ b → IfSound filter_bytes (cond b (Ok (logged s entry)) (logged_then entry (flushed filter_bytes s)))) [
   | true ↦ λ e. logged_sound filter_bytes s entry sound is (room_left s entry (le_of (need entry) (gap s.log) e))
   | false ↦ λ _. logged_then_sound filter_bytes entry (flushed filter_bytes s) is (flushed_done filter_bytes s sound) (flushed_with_empty filter_bytes s (memory s) refl)
 ] refl
 
-pub written_sound : (filter_bytes : FilterBytes) (s t : State) (entry : Entry) → IsSound filter_bytes s → IsEntry entry → written filter_bytes s entry ≡ Ok t → IsSound filter_bytes t
+pub written_sound : (filter_bytes : FilterBytes) (s t : State) (entry : Entry) → IsSound filter_bytes s → IsLogged entry → written filter_bytes s entry ≡ Ok t → IsSound filter_bytes t
 written_sound filter_bytes s t entry sound is e = if_sound filter_bytes (written filter_bytes s entry) t (written_done filter_bytes s entry sound is) e

@@ -24,7 +24,7 @@ use Rattle.state_model.proofs.Outputs.{placed_lists, outputs_joined, parts_rise,
 use Rattle.state_model.proofs.Merged.{outputs_few, outputs_some}
 use Rattle.state_model.proofs.Orders.{all_out_of, pairs_out_of}
 use Rattle.state_model.proofs.Places.{Stand, OnDevice, Clear, laid_tables, placed_stand}
-use Rattle.state_model.proofs.SoundLogs.{newest_all, filled_none}
+use Rattle.state_model.proofs.SoundLogs.{logged_entries, newest_all, filled_none}
 use Rattle.state_model.proofs.SoundChanges.{IfSound, if_sound, next_epoch}
 use Rattle.state_model.proofs.SoundJobs.{taken_tables, sound_stand, drop_sound}
 use Rattle.state_model.proofs.SoundOutputs.{oldest_all, outputs_all, made_sound, made_at, made_have, rising_order}
@@ -33,7 +33,7 @@ live_are_entries : (filter_bytes : FilterBytes) (s : State) → IsSound filter_b
 live_are_entries filter_bytes s sound =
     let each = weaker IsSoundTable (λ (t : Table). AllByRecursion IsEntry t.entries) (λ t is. is.entries.sound.each) s.tables sound.tables in
     all_kept IsEntry (λ (e : Entry). has_value e.value) (newest_entries (entries_of s))
-    (newest_all IsEntry (entries_of s) (all_join IsEntry (oldest_first s.tables) s.log (oldest_all IsEntry s.tables each) sound.log))
+    (newest_all IsEntry (entries_of s) (all_join IsEntry (oldest_first s.tables) s.log (oldest_all IsEntry s.tables each) (logged_entries s.log sound.log)))
 
 compact_placed_sound : (filter_bytes : FilterBytes) (s : State) (done : Result (List Table) NoRoom) → IsSound filter_bytes s → s.epoch ≢ last_epoch
     → placed filter_bytes s.settings s.pages (taken (without_job s)) 6 (outputs_for s.tables (live_entries s)) ≡ done → IfSound filter_bytes (compact_placed s done)

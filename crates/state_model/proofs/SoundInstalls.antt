@@ -15,7 +15,7 @@ use Rattle.state_model.specs.Taken.{taken}
 use Rattle.state_model.specs.Merges.{Plan, plan_of, on_level, overlaps, least_of, greatest_of, is_over, first_over, choose, is_deepest, lasting, newest_of, planned, least_key, greatest_key}
 use Rattle.state_model.specs.Tends.{with_job, outstanding, installed, inserted, without, Tended, Tend, idle, works, installs, last_epoch_reached, no_room, no_memory, read_failed, damage_met, write_failed}
 use Rattle.extent_model.specs.Extents.{AreApart}
-use Rattle.state_model.specs.Sound.{IsSound, IsSoundTable, StandsBefore, AreMade, IsJob, plan_of_job}
+use Rattle.state_model.specs.Sound.{IsSound, IsSoundTable, StandsBefore, IsJob, plan_of_job}
 use Rattle.state_model.specs.SoundLaws.{Ever}
 use Rattle.state_model.proofs.Sayings.{newest_entries_rise}
 use Rattle.state_model.proofs.Outputs.{joined, outputs_joined, parts_rise}

@@ -5,7 +5,7 @@ use Rattle.std.specs.List.{AllByRecursion}
 use Rattle.std.specs.Prelude.{Option, Some, None, Result, Ok, Err, nat_lt, ◌==◌, ◌||◌}
 use Rattle.byte_fields.specs.Spelling.{IsBytes}
 use Rattle.map_model.specs.SortedMap.{Bytes}
-use Rattle.entry_model.specs.Entries.{put_entry, del_entry, IsEntry}
+use Rattle.entry_model.specs.Entries.{IsLogged, del_entry, put_entry}
 use Rattle.state_model.specs.State.{State, without_job}
 use Rattle.table_model.specs.Tables.{FilterBytes}
 use Rattle.state_model.specs.Changes.{written, flushed, compacted}
@@ -41,14 +41,15 @@ first_within : (a b : Option Reply) → option_or a b ≡ None → (a ≡ None) 
 first_within (Some limit) b e = absurd cc
 first_within None b e = (refl, e)
 
-put_within : (key value : Bytes) → option_or (key_limit key) (value_limit value) ≡ None → IsBytes key → IsBytes value → IsEntry (put_entry key value)
+put_within : (key value : Bytes) → option_or (key_limit key) (value_limit value) ≡ None → IsBytes key → IsBytes value → IsLogged (put_entry key value)
 put_within key value e of_key of_value =
     let both = first_within (key_limit key) (value_limit value) e in
     let keys = key_within key both.0 in
-    record { some_key = keys.0; short_key = keys.1; short_value = value_within value both.1; key_bytes = of_key; value_bytes = of_value }
+    let short = value_within value both.1 in
+    record { sound = record { some_key = keys.0; short_key = keys.1; short_value = omega (arith, short); key_bytes = of_key; value_bytes = of_value }; short = short }
 
-del_within : (key : Bytes) → key_limit key ≡ None → IsBytes key → IsEntry (del_entry key)
-del_within key e of_key = let keys = key_within key e in record { some_key = keys.0; short_key = keys.1; short_value = omega arith; key_bytes = of_key; value_bytes = λ i. omega arith }
+del_within : (key : Bytes) → key_limit key ≡ None → IsBytes key → IsLogged (del_entry key)
+del_within key e of_key = let keys = key_within key e in record { sound = record { some_key = keys.0; short_key = keys.1; short_value = omega arith; key_bytes = of_key; value_bytes = λ i. omega arith }; short = omega arith }
 
 -- ---- the answer
 

@@ -5,7 +5,7 @@ use Rattle.filter_api.specs.declared.settings.Settings.{Settings}
 use Rattle.filter_api.specs.Ranges.{InRange}
 use Rattle.key_base.specs.Limits.{last_epoch, log_bytes, max_block_entries, max_device_pages, max_level, max_ratio, max_tables, min_device_pages}
 use Rattle.key_base.specs.ByteOrder.{IsBefore}
-use Rattle.entry_model.specs.Entries.{Entry, filled, IsEntry}
+use Rattle.entry_model.specs.Entries.{Entry, IsLogged, filled}
 use Rattle.block_model.specs.Block.{IsTable}
 use Rattle.state_model.specs.State.{State, Job}
 use Rattle.table_model.specs.Tables.{FilterBytes, Table, table_of}
@@ -57,7 +57,7 @@ pub record IsSound (filter_bytes : FilterBytes) (s : State) : Type 0 where
   pub ratio : s.settings.ratio ≤ max_ratio
   pub device : (min_device_pages ≤ s.pages) × (s.pages ≤ max_device_pages)
   pub epoch : (1 ≤ s.epoch) × (s.epoch ≤ last_epoch)
-  pub log : AllByRecursion IsEntry s.log
+  pub log : AllByRecursion IsLogged s.log
   pub log_fits : filled s.log < log_bytes
   pub few : length s.tables ≤ max_tables
   pub tables : AllByRecursion IsSoundTable s.tables

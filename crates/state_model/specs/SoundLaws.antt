@@ -7,7 +7,7 @@ use Rattle.filter_model.specs.Keys.{IsKeyList}
 use Rattle.byte_fields.specs.Spelling.{IsBytes}
 use Rattle.key_base.specs.Limits.{first_table_page, log_bytes, max_device_pages, max_ratio, max_tables, min_device_pages}
 use Rattle.map_model.specs.SortedMap.{Bytes}
-use Rattle.entry_model.specs.Entries.{Entry, filled, IsEntry, keys_of}
+use Rattle.entry_model.specs.Entries.{Entry, IsLogged, filled, keys_of}
 use Rattle.state_model.specs.State.{State, Job, new_state, without_job}
 use Rattle.table_model.specs.Tables.{FilterBytes, Table}
 use Rattle.state_model.specs.View.{memory, state_map}
@@ -47,7 +47,7 @@ FlushKeepsSound =
 -- so does an entry that is written
 abbrev pub WriteKeepsSound : Type 0
 WriteKeepsSound =
-    (filter_bytes : FilterBytes) (s t : State) (entry : Entry) → IsSound filter_bytes s → IsEntry entry
+    (filter_bytes : FilterBytes) (s t : State) (entry : Entry) → IsSound filter_bytes s → IsLogged entry
     → written filter_bytes s entry ≡ Ok t → IsSound filter_bytes t
 
 -- and a compaction

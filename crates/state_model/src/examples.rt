@@ -21,7 +21,7 @@ ghost use Rattle.line_model.specs.Requests.{Put, Del, Get, Seek, Range, Count, E
 ghost use Rattle.state_model.specs.Examples.{all_read, all_written, base, cramped, grown_to, hashed, set_to, small_store, one_byte, key, put_one, four_tables, three_tables, aa1_and_ab1, tombstone_over_a_value, two_values, table_at, store_with, pages_of_plan, place_and_size};
 
 /// Tables that are flushed, merged and compacted.
-#[tactic(auto, unfolding(block_model::specs::Pages::pages_for, block_model::specs::Pages::block_length, block_model::specs::Pages::block_pages, block_model::specs::Pages::blocks_of, block_model::specs::Pages::data_pages, block_model::specs::Pages::index_length, entry_model::specs::Entries::filled, entry_model::specs::Entries::gap, key_base::specs::Limits::last_epoch))]
+#[tactic(auto, unfolding(block_model::specs::Pages::pages_for, block_model::specs::Bodies::entries_bytes, block_model::specs::Pages::block_length, block_model::specs::Pages::block_pages, block_model::specs::Pages::blocks_of, block_model::specs::Pages::data_pages, block_model::specs::Pages::index_length, entry_model::specs::Entries::filled, entry_model::specs::Entries::gap, key_base::specs::Limits::last_epoch))]
 pub fn merges_and_flushes()
     ensures a_tombstone_hides_and_a_compaction_drops_it { (played one_byte small_store (Put (key 0x61) (0x62 ∷ []) ∷ Flush ∷ Del (key 0x61) ∷ Flush ∷ Get (key 0x61) ∷ Compact ∷ Get (key 0x61) ∷ Explain (key 0x61) ∷ [])).0 ≡ Done ∷ Done ∷ Done ∷ Done ∷ Missing ∷ Done ∷ Missing ∷ Explained 0 0 0 ∷ [] }
     ensures tables_stand_in_the_first_gaps { map place_and_size (played one_byte small_store four_tables).1.tables ≡ (0 ∷ 201 ∷ 3 ∷ 1 ∷ 1 ∷ []) ∷ (0 ∷ 198 ∷ 3 ∷ 1 ∷ 1 ∷ []) ∷ (0 ∷ 195 ∷ 3 ∷ 1 ∷ 1 ∷ []) ∷ (0 ∷ 192 ∷ 3 ∷ 1 ∷ 1 ∷ []) ∷ [] }
@@ -32,7 +32,7 @@ pub fn merges_and_flushes()
 {}
 
 /// What hides what, and where tables go.
-#[tactic(auto, unfolding(block_model::specs::Pages::pages_for, block_model::specs::Pages::block_length, block_model::specs::Pages::block_pages, block_model::specs::Pages::blocks_of, block_model::specs::Pages::data_pages, block_model::specs::Pages::index_length, entry_model::specs::Entries::filled, entry_model::specs::Entries::gap, key_base::specs::Limits::last_epoch))]
+#[tactic(auto, unfolding(block_model::specs::Pages::pages_for, block_model::specs::Bodies::entries_bytes, block_model::specs::Pages::block_length, block_model::specs::Pages::block_pages, block_model::specs::Pages::blocks_of, block_model::specs::Pages::data_pages, block_model::specs::Pages::index_length, entry_model::specs::Entries::filled, entry_model::specs::Entries::gap, key_base::specs::Limits::last_epoch))]
 pub fn levels_and_gaps()
     ensures a_merge_keeps_a_tombstone_over_a_deeper_value { map place_and_size (played one_byte small_store (tombstone_over_a_value ++ put_one 0x65 ∷ [])).1.tables ≡ (1 ∷ 207 ∷ 3 ∷ 1 ∷ 4 ∷ []) ∷ (6 ∷ 192 ∷ 3 ∷ 1 ∷ 1 ∷ []) ∷ [] }
     ensures it_still_hides_it { get (state_map (played one_byte small_store (tombstone_over_a_value ++ put_one 0x65 ∷ [])).1) (key 0x61) ≡ None }
@@ -52,7 +52,7 @@ pub fn levels_and_gaps()
 {}
 
 /// A merge in merge slices of two blocks: two that read, one that writes, one that installs.
-#[tactic(auto, unfolding(block_model::specs::Pages::pages_for, block_model::specs::Pages::block_length, block_model::specs::Pages::block_pages, block_model::specs::Pages::blocks_of, block_model::specs::Pages::data_pages, block_model::specs::Pages::index_length, entry_model::specs::Entries::filled, entry_model::specs::Entries::gap, key_base::specs::Limits::last_epoch))]
+#[tactic(auto, unfolding(block_model::specs::Pages::pages_for, block_model::specs::Bodies::entries_bytes, block_model::specs::Pages::block_length, block_model::specs::Pages::block_pages, block_model::specs::Pages::blocks_of, block_model::specs::Pages::data_pages, block_model::specs::Pages::index_length, entry_model::specs::Entries::filled, entry_model::specs::Entries::gap, key_base::specs::Limits::last_epoch))]
 pub fn merges_in_slices()
     ensures three_are_too_few { map place_and_size (played_in_slices one_byte 2 small_store (four_tables ++ replicate 3 (put_one 0x65))).1.tables ≡ (0 ∷ 201 ∷ 3 ∷ 1 ∷ 1 ∷ []) ∷ (0 ∷ 198 ∷ 3 ∷ 1 ∷ 1 ∷ []) ∷ (0 ∷ 195 ∷ 3 ∷ 1 ∷ 1 ∷ []) ∷ (0 ∷ 192 ∷ 3 ∷ 1 ∷ 1 ∷ []) ∷ [] }
     ensures four_are_enough { map place_and_size (played_in_slices one_byte 2 small_store (four_tables ++ replicate 4 (put_one 0x65))).1.tables ≡ (1 ∷ 204 ∷ 3 ∷ 1 ∷ 4 ∷ []) ∷ [] }
@@ -60,7 +60,7 @@ pub fn merges_in_slices()
 {}
 
 /// Reads between two keys, and their bounds.
-#[tactic(auto, unfolding(block_model::specs::Pages::pages_for, block_model::specs::Pages::block_length, block_model::specs::Pages::block_pages, block_model::specs::Pages::blocks_of, block_model::specs::Pages::data_pages, block_model::specs::Pages::index_length, entry_model::specs::Entries::filled, entry_model::specs::Entries::gap, key_base::specs::Limits::last_epoch))]
+#[tactic(auto, unfolding(block_model::specs::Pages::pages_for, block_model::specs::Bodies::entries_bytes, block_model::specs::Pages::block_length, block_model::specs::Pages::block_pages, block_model::specs::Pages::blocks_of, block_model::specs::Pages::data_pages, block_model::specs::Pages::index_length, entry_model::specs::Entries::filled, entry_model::specs::Entries::gap, key_base::specs::Limits::last_epoch))]
 pub fn reads_between_keys()
     ensures a_seek_steps_over_deleted_keys { (played one_byte small_store (three_tables ++ Seek (key 1) (Some (key 10)) ∷ [])).0 ≡ Done ∷ Done ∷ Done ∷ Done ∷ Done ∷ Done ∷ Done ∷ Done ∷ Done ∷ Done ∷ Done ∷ Done ∷ Done ∷ Done ∷ Done ∷ At (key 3) (1 ∷ []) ∷ [] }
     ensures its_bound_counts_them { seek_bound (played one_byte small_store three_tables).1 (key 1) (key 10) ≡ 7 }
@@ -72,7 +72,7 @@ pub fn reads_between_keys()
 {}
 
 /// Where want of memory, a failed read and a failed write may be met, and what these leave.
-#[tactic(auto, unfolding(block_model::specs::Pages::pages_for, block_model::specs::Pages::block_length, block_model::specs::Pages::block_pages, block_model::specs::Pages::blocks_of, block_model::specs::Pages::data_pages, block_model::specs::Pages::index_length, entry_model::specs::Entries::filled, entry_model::specs::Entries::gap, key_base::specs::Limits::last_epoch))]
+#[tactic(auto, unfolding(block_model::specs::Pages::pages_for, block_model::specs::Bodies::entries_bytes, block_model::specs::Pages::block_length, block_model::specs::Pages::block_pages, block_model::specs::Pages::blocks_of, block_model::specs::Pages::data_pages, block_model::specs::Pages::index_length, entry_model::specs::Entries::filled, entry_model::specs::Entries::gap, key_base::specs::Limits::last_epoch))]
 pub fn where_faults_are_met()
     ensures a_get_reads_a_table { Reads (played one_byte small_store two_values).1 (Get (key 0x61)) }
     ensures but_not_where_the_memory_has_the_key { Reads (played one_byte small_store (two_values ++ put_one 0x61 ∷ [])).1 (Get (key 0x61)) → ⊥ }
@@ -87,7 +87,7 @@ pub fn where_faults_are_met()
 {}
 
 /// What reads: what a filter admits, and what it does not deny, such as an open seek.
-#[tactic(auto, unfolding(block_model::specs::Pages::pages_for, block_model::specs::Pages::block_length, block_model::specs::Pages::block_pages, block_model::specs::Pages::blocks_of, block_model::specs::Pages::data_pages, block_model::specs::Pages::index_length, entry_model::specs::Entries::filled, entry_model::specs::Entries::gap, key_base::specs::Limits::last_epoch))]
+#[tactic(auto, unfolding(block_model::specs::Pages::pages_for, block_model::specs::Bodies::entries_bytes, block_model::specs::Pages::block_length, block_model::specs::Pages::block_pages, block_model::specs::Pages::blocks_of, block_model::specs::Pages::data_pages, block_model::specs::Pages::index_length, entry_model::specs::Entries::filled, entry_model::specs::Entries::gap, key_base::specs::Limits::last_epoch))]
 pub fn where_filters_admit()
     ensures a_get_that_the_filter_admits { Reads (played one_byte small_store aa1_and_ab1).1 (Get (codes "aa9")) }
     ensures not_one_that_it_denies { Reads (played one_byte small_store aa1_and_ab1).1 (Get (codes "ac0")) → ⊥ }
@@ -103,7 +103,7 @@ pub fn where_filters_admit()
 {}
 
 /// Tables keep the settings that they were made with; new ones get those of the state. More pages are more room.
-#[tactic(auto, unfolding(block_model::specs::Pages::pages_for, block_model::specs::Pages::block_length, block_model::specs::Pages::block_pages, block_model::specs::Pages::blocks_of, block_model::specs::Pages::data_pages, block_model::specs::Pages::index_length, entry_model::specs::Entries::filled, entry_model::specs::Entries::gap, key_base::specs::Limits::last_epoch))]
+#[tactic(auto, unfolding(block_model::specs::Pages::pages_for, block_model::specs::Bodies::entries_bytes, block_model::specs::Pages::block_length, block_model::specs::Pages::block_pages, block_model::specs::Pages::blocks_of, block_model::specs::Pages::data_pages, block_model::specs::Pages::index_length, entry_model::specs::Entries::filled, entry_model::specs::Entries::gap, key_base::specs::Limits::last_epoch))]
 pub fn settings_and_pages_that_change()
     ensures a_table_of_no_hash_where_new_ones_have_it { admitted (set_to hashed (played one_byte small_store aa1_and_ab1).1) (codes "aa9") ≡ 1 }
     ensures a_table_of_hash_where_new_ones_have_none { admitted (set_to base (played one_byte (set_to hashed small_store) aa1_and_ab1).1) (codes "aa9") ≡ 0 }
@@ -117,7 +117,7 @@ pub fn settings_and_pages_that_change()
 {}
 
 /// Which lines write, and which take memory.
-#[tactic(auto, unfolding(block_model::specs::Pages::pages_for, block_model::specs::Pages::block_length, block_model::specs::Pages::block_pages, block_model::specs::Pages::blocks_of, block_model::specs::Pages::data_pages, block_model::specs::Pages::index_length, entry_model::specs::Entries::filled, entry_model::specs::Entries::gap, key_base::specs::Limits::last_epoch))]
+#[tactic(auto, unfolding(block_model::specs::Pages::pages_for, block_model::specs::Bodies::entries_bytes, block_model::specs::Pages::block_length, block_model::specs::Pages::block_pages, block_model::specs::Pages::blocks_of, block_model::specs::Pages::data_pages, block_model::specs::Pages::index_length, entry_model::specs::Entries::filled, entry_model::specs::Entries::gap, key_base::specs::Limits::last_epoch))]
 pub fn where_something_is_written()
     ensures a_put { Writes one_byte small_store (put_one 0x61) }
     ensures a_del { Writes one_byte small_store (Del (key 0x61)) }
@@ -129,7 +129,7 @@ pub fn where_something_is_written()
 {}
 
 /// What a merge slice writes, and how it is refused. A table of one entry takes three pages.
-#[tactic(auto, unfolding(block_model::specs::Pages::pages_for, block_model::specs::Pages::block_length, block_model::specs::Pages::block_pages, block_model::specs::Pages::blocks_of, block_model::specs::Pages::data_pages, block_model::specs::Pages::index_length, entry_model::specs::Entries::filled, entry_model::specs::Entries::gap, key_base::specs::Limits::last_epoch))]
+#[tactic(auto, unfolding(block_model::specs::Pages::pages_for, block_model::specs::Bodies::entries_bytes, block_model::specs::Pages::block_length, block_model::specs::Pages::block_pages, block_model::specs::Pages::blocks_of, block_model::specs::Pages::data_pages, block_model::specs::Pages::index_length, entry_model::specs::Entries::filled, entry_model::specs::Entries::gap, key_base::specs::Limits::last_epoch))]
 pub fn what_a_merge_slice_writes()
     ensures an_output_that_has_room { MayWrite one_byte (played one_byte small_store four_tables).1 (all_read (played one_byte small_store four_tables).1) }
     ensures none_without_room { MayWrite one_byte cramped (all_read cramped) → ⊥ }
@@ -150,7 +150,7 @@ pub fn what_is_not_of_bytes()
 {}
 
 /// Lines that were answered, the last with a reply that ends a script.
-#[tactic(auto, unfolding(block_model::specs::Pages::pages_for, block_model::specs::Pages::block_length, block_model::specs::Pages::block_pages, block_model::specs::Pages::blocks_of, block_model::specs::Pages::data_pages, block_model::specs::Pages::index_length, entry_model::specs::Entries::filled, entry_model::specs::Entries::gap, key_base::specs::Limits::last_epoch, hex::specs::Hex::decode_pairs))]
+#[tactic(auto, unfolding(block_model::specs::Pages::pages_for, block_model::specs::Bodies::entries_bytes, block_model::specs::Pages::block_length, block_model::specs::Pages::block_pages, block_model::specs::Pages::blocks_of, block_model::specs::Pages::data_pages, block_model::specs::Pages::index_length, entry_model::specs::Entries::filled, entry_model::specs::Entries::gap, key_base::specs::Limits::last_epoch, hex::specs::Hex::decode_pairs))]
 pub fn lines_that_were_answered()
     ensures a_put_goes_on { WentOn (λ why. ⊥) one_byte (λ said s. ⊤) 0 small_store (codes "put 61 62" ∷ []) (codes "ok" ++ 10 ∷ []) (played one_byte small_store (Put (key 0x61) (0x62 ∷ []) ∷ [])).1 }
     ensures and_a_quit_is_answered { Answers (λ why. ⊥) one_byte (λ said s. ⊤) 0 small_store (codes "put 61 62" ∷ codes "quit" ∷ []) (codes "ok" ++ 10 ∷ codes "bye" ++ 10 ∷ []) (played one_byte small_store (Put (key 0x61) (0x62 ∷ []) ∷ [])).1 }
@@ -158,7 +158,7 @@ pub fn lines_that_were_answered()
 {}
 
 /// A quit is said in a state that has R, as any reply that is no fault.
-#[tactic(auto, unfolding(block_model::specs::Pages::pages_for, block_model::specs::Pages::block_length, block_model::specs::Pages::block_pages, block_model::specs::Pages::blocks_of, block_model::specs::Pages::data_pages, block_model::specs::Pages::index_length, entry_model::specs::Entries::filled, entry_model::specs::Entries::gap, key_base::specs::Limits::last_epoch, hex::specs::Hex::decode_pairs))]
+#[tactic(auto, unfolding(block_model::specs::Pages::pages_for, block_model::specs::Bodies::entries_bytes, block_model::specs::Pages::block_length, block_model::specs::Pages::block_pages, block_model::specs::Pages::blocks_of, block_model::specs::Pages::data_pages, block_model::specs::Pages::index_length, entry_model::specs::Entries::filled, entry_model::specs::Entries::gap, key_base::specs::Limits::last_epoch, hex::specs::Hex::decode_pairs))]
 pub fn what_a_quit_is_said_in()
     ensures no_answer_where_no_state_has_it { Answers (λ why. ⊤) one_byte (λ said s. ⊥) 0 small_store (codes "quit" ∷ []) (codes "bye" ++ 10 ∷ []) small_store → ⊥ }
     ensures and_no_script { Script (λ why. ⊤) one_byte (λ said s. ⊥) 0 small_store (codes "quit" ∷ []) (codes "bye" ++ 10 ∷ []) AtQuit → ⊥ }

@@ -19,7 +19,7 @@ use Rattle.log_model.proofs.Logs.{none_filled}
 use Rattle.manifest.specs.Manifest.{Manifest, other_place, place_of}
 use Rattle.state_model.proofs.EmptyStores.{compaction_left}
 use Rattle.state_model.proofs.SoundCompaction.{compacted_sound}
-use Rattle.state_model.proofs.SoundLogs.{newest_all, newest_none}
+use Rattle.state_model.proofs.SoundLogs.{logged_entries, newest_all, newest_none}
 use Rattle.state_model.specs.Changes.{compact_placed, compacted_with}
 use Rattle.state_model.specs.Merges.{NoRoom}
 use Rattle.state_model.specs.Sound.{IsSound}
@@ -272,7 +272,7 @@ module _ (spelling : Spelling) (bytes : FilterBytes) (store after : StoreValue) 
 -- ---- whatever the device is
 
 pub entries_sound : (store : StoreValue) → IsConsistent store → AllByRecursion IsEntry store.memory.entries
-entries_sound store whole = subst (AllByRecursion IsEntry) (sym whole.entries.memory_is) (newest_all IsEntry whole.entries.entries whole.entries.sound)
+entries_sound store whole = subst (AllByRecursion IsEntry) (sym whole.entries.memory_is) (newest_all IsEntry whole.entries.entries (logged_entries whole.entries.entries whole.entries.sound))
 
 pub compacted_whole : (after : StoreValue) (old : Manifest) → IsInstalledWhole old after.manifest after.tables after.log → after.memory.entries ≡ [] → after.job ≡ None → AreNumbered after.blocks (length after.tables) → IsConsistent after
 compacted_whole after old is cleared gone numbered = record {

@@ -25,8 +25,8 @@ use Rattle.manifest_model.specs.Laws.{IsVersion}
 use Rattle.manifest_model.specs.Rows.{IsTableRow, extent_of}
 use Rattle.manifest_model.specs.Version.{Version}
 use Rattle.map_model.specs.SortedMap.{Bytes}
-use Rattle.merge_rows.specs.Merges.{TableWalk, numbered, walk_at}
-use Rattle.merge_rows.specs.Steps.{AreNumbersIn, numbers}
+use Rattle.merge_rows.proofs.Begins.{walks_known}
+use Rattle.merge_rows.specs.Steps.{AreWalksIn, stands}
 use Rattle.state_model.proofs.Places.{entries_in_pages}
 use Rattle.table_file.specs.Opened.{Opened}
 use Rattle.table_model.specs.Written.{row_for}
@@ -35,7 +35,7 @@ use Rattle.store_core.specs.StoreValue.{rows_of}
 
 -- it reads tables that are there, and its outputs are so
 pub record IsCompacting (v : Version) (tables : List Opened) (m : JobValue) (free : Taken) : Type 0 where
-  pub numbers : AreNumbersIn tables (numbers m.merge.walks)
+  pub numbers : AreWalksIn tables (stands m.merge.walks)
   pub written : AreAllWritten m
   pub output : m.output ≡ 6
   pub each : AllByRecursion IsTableRow m.outputs
@@ -63,10 +63,6 @@ level_of_row level first settings entries filter_bytes = refl
 
 -- ---- it begins
 
-walked : (which : List ℕ) (tables : List Opened) (low : Bytes) → map (λ (w : TableWalk). w.number) (map (λ (n : ℕ). record { number = n; walk = walk_at (numbered tables n) low }) which) ≡ which
-walked [] tables low = refl
-walked (n ∷ which) tables low = ap (λ (l : List ℕ). n ∷ l) (walked which tables low)
-
 many_numbers : (n : ℕ) → length (all_numbers n) ≡ n
 many_numbers zero = refl
 many_numbers (suc n) = ap suc (many_numbers n)
@@ -77,7 +73,7 @@ compacting_begun v tables memory settings free is rows pages same =
     let which = all_numbers (length tables) in
     let many : length tables ≡ length v.rows = sym (length-map tables (λ (t : Opened). t.row)) ∙ ap (λ (rs : List Row). length rs) rows in
     record {
-      numbers = subst (AreNumbersIn tables) (sym (walked which tables [])) (numbers_below (length tables) (length tables) (omega arith));
+      numbers = walks_known which tables [] (numbers_below (length tables) (length tables) (omega arith));
       written = refl;
       output = refl;
       each = tt;
@@ -114,7 +110,7 @@ more_extents : (rows outputs : List Row) (row : Row) → map extent_of (rows ++ 
 more_extents rows outputs row = ap (map extent_of) (sym (append_assoc rows outputs (row ∷ []))) ∙ map-append extent_of (rows ++ outputs) (row ∷ [])
 
 module _ (spelling : Spelling) (built_cutoff : ℕ → List Leaf → ℕ) (v : Version) (tables : List Opened) (old new : JobValue) (free taken : Taken) (before after : World) (on : IsCompacting v tables old free)
-    (same_numbers : numbers new.merge.walks ≡ numbers old.merge.walks) (same_output : new.output ≡ old.output) where
+    (same_stands : stands new.merge.walks ≡ stands old.merge.walks) (same_output : new.output ≡ old.output) where
   -- what is so of its outputs, however many more may come
   pub record GoesOnSo : Type 0 where
     pub each : AllByRecursion IsTableRow new.outputs
@@ -161,7 +157,7 @@ module _ (spelling : Spelling) (built_cutoff : ℕ → List Leaf → ℕ) (v : V
   compacting_more moves within written =
       let so = outputs_so moves in
       record {
-        numbers = subst (AreNumbersIn tables) (sym same_numbers) on.numbers;
+        numbers = subst (AreWalksIn tables) (sym same_stands) on.numbers;
         written = written;
         output = same_output ∙ on.output;
         each = so.each;

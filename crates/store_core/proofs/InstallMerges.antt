@@ -23,6 +23,7 @@ use Rattle.manifest.specs.Manifest.{Manifest, StandsInSlot, install_of, other_pl
 use Rattle.manifest_model.specs.Installs.{IsInstalled, IsOldOrNew}
 use Rattle.manifest_model.specs.Laws.{IsVersion}
 use Rattle.manifest_model.specs.Version.{log_page_of}
+use Rattle.merge_rows.proofs.Begins.{numbers_known}
 use Rattle.merge_rows.specs.Steps.{numbers}
 use Rattle.state_model.proofs.Installs.{state_apart}
 use Rattle.state_model.proofs.SoundInstalls.{slice_keeps, slice_sound}
@@ -89,7 +90,7 @@ module _ (agree : StandingAgrees) (spelling : Spelling) (bytes : FilterBytes) (s
   to_before image under =
       let f = follows image under in
       let many = many_held spelling image store.tables s.tables under.tables in
-      let there = subst (λ (n : ℕ). AllByRecursion (λ (k : ℕ). k < n) (numbers run.merge.walks)) many run_is.numbers in
+      let there = subst (λ (n : ℕ). AllByRecursion (λ (k : ℕ). k < n) (numbers run.merge.walks)) many (numbers_known run.merge.walks store.tables run_is.numbers) in
       let made = f.makes.made_are in
       let same : under.ready.named.area ≡ store.log.area = omega (arith, under.ready.named.area_is, area) in (
         under.ready,

@@ -4,7 +4,7 @@ use Rattle.std.specs.Option.{option_or}
 use Rattle.std.specs.Prelude.{Option, Some, None, nat_lt, ◌==◌, ◌||◌}
 use Rattle.byte_fields.specs.Spelling.{IsBytes}
 use Rattle.disk_trait.specs.World.{Meanwhile, World}
-use Rattle.entry_model.specs.Entries.{IsEntry, bytes_of, entry_of}
+use Rattle.entry_model.specs.Entries.{IsLogged, bytes_of, entry_of}
 use Rattle.filter_api.specs.Spellings.{Spelling}
 use Rattle.image_model.specs.Stands.{StandsForMap}
 use Rattle.line_model.specs.Limits.{key_limit, limit_of, value_limit}
@@ -122,13 +122,17 @@ few_of n is = grind arith
 short_of : (n : ℕ) → nat_lt 65536 n ≡ false → n ≤ 65536
 short_of n is = grind arith
 
-pub is_entry : (key : Bytes) (value : Option Bytes) → key_limit key ≡ None → value_limit (bytes_of value) ≡ None → IsBytes key → IsBytes (bytes_of value) → IsEntry (entry_of key value)
+pub is_entry : (key : Bytes) (value : Option Bytes) → key_limit key ≡ None → value_limit (bytes_of value) ≡ None → IsBytes key → IsBytes (bytes_of value) → IsLogged (entry_of key value)
 is_entry key value key_kept value_kept key_bytes value_bytes =
     let key_so = not_so (length key == 0 || nat_lt 1024 (length key)) (LongKey (length key)) key_kept in
+    let short = short_of (length (bytes_of value)) (not_so (nat_lt 65536 (length (bytes_of value))) (LongValue (length (bytes_of value))) value_kept) in
     record {
-      some_key = some_of (length key) key_so;
-      short_key = few_of (length key) key_so;
-      short_value = short_of (length (bytes_of value)) (not_so (nat_lt 65536 (length (bytes_of value))) (LongValue (length (bytes_of value))) value_kept);
-      key_bytes = key_bytes;
-      value_bytes = value_bytes;
+      sound = record {
+        some_key = some_of (length key) key_so;
+        short_key = few_of (length key) key_so;
+        short_value = omega (arith, short);
+        key_bytes = key_bytes;
+        value_bytes = value_bytes;
+      };
+      short = short;
     }

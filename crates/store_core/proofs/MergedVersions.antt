@@ -11,6 +11,7 @@ use Rattle.manifest.specs.Manifest.{Manifest}
 use Rattle.manifest_model.proofs.Rows.{rows_keep}
 use Rattle.manifest_model.specs.Laws.{IsVersion, RowFits}
 use Rattle.manifest_model.specs.Rows.{AreTableRows, IsNoDeeper, IsTableRow, extent_of}
+use Rattle.merge_rows.proofs.Begins.{numbers_known}
 use Rattle.merge_rows.specs.Steps.{numbers}
 use Rattle.table_file.specs.Opened.{Opened}
 use Rattle.store_core.specs.StoreValue.{rows_of}
@@ -87,7 +88,7 @@ module _ (m : Manifest) (tables : List Opened) (run : JobValue) (is : IsVersion 
 
   pub made_few : length run.made + length (others_in (numbers run.merge.walks) tables) ≤ 1024
   made_few =
-      let fewer = others_few (numbers run.merge.walks) tables (pairs_of (λ (a b : ℕ). Rattle.std.specs.Prelude.◌≢◌ a b) (numbers run.merge.walks) runs.apart) runs.numbers in
+      let fewer = others_few (numbers run.merge.walks) tables (pairs_of (λ (a b : ℕ). Rattle.std.specs.Prelude.◌≢◌ a b) (numbers run.merge.walks) runs.apart) (numbers_known run.merge.walks tables runs.numbers) in
       let many = length-map run.merge.walks Rattle.merge_rows.specs.Steps.number_of_walk in
       let wrote : length run.outputs ≡ length run.made = ap (λ (rs : List Row). length rs) runs.written ∙ length-map run.made row_of in
       let all : length tables ≡ length m.version.rows = sym (length-map tables row_of) ∙ ap (λ (rs : List Row). length rs) rows in

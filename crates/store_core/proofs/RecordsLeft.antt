@@ -3,7 +3,7 @@ use Rattle.std.proofs.Common.{◌≡◌, ◌≢◌, inl, inr, ◌∙◌, ◌<◌
 use Rattle.std.proofs.lemmas.Bool.{cases_lt}
 use Rattle.disk_trait.specs.World.{World, WriteMoves}
 use Rattle.entry_model.proofs.Bodies.{body_size}
-use Rattle.entry_model.specs.Entries.{Entry, IsEntry, need}
+use Rattle.entry_model.specs.Entries.{Entry, IsLogged, need}
 use Rattle.log_model.specs.Area.{start_of}
 use Rattle.manifest_model.specs.Version.{log_page_of}
 use Rattle.mem_table.specs.Table.{MemoryTable}
@@ -14,8 +14,8 @@ use Rattle.store_core.proofs.Framing.{IsOutside, leaves_fewer, leaves_then, leav
 use Rattle.store_core.proofs.Wholes.{begun_where_none}
 
 -- the record of an entry fits an empty area
-pub small_need : (e : Entry) → IsEntry e → need e ≤ 262144
-small_need e is = omega (arith, body_size e, is.short_key, is.short_value)
+pub small_need : (e : Entry) → IsLogged e → need e ≤ 262144
+small_need e is = omega (arith, body_size e, is.sound.short_key, is.short)
 
 module _ (store : StoreValue) (whole : IsConsistent store) where
   within : store.log.filled ≤ 262144

@@ -14,6 +14,7 @@ use Rattle.level_merge.specs.Making.{OutputsLeft}
 use Rattle.level_merge.specs.JobValue.{JobValue}
 use Rattle.level_merge.specs.Plans.{numbered}
 use Rattle.manifest_model.specs.Version.{Version}
+use Rattle.merge_rows.proofs.Begins.{numbers_known}
 use Rattle.merge_rows.specs.Steps.{numbers}
 use Rattle.state_model.specs.State.{Job, State, written_by}
 use Rattle.state_model.specs.Taken.{extent_of, taken}
@@ -62,7 +63,7 @@ runs_behind law spelling v s after opened new t image None None level may many s
 runs_behind law spelling v s after opened new t image None (Some job) level may many settings tables runs = absurd runs
 runs_behind law spelling v s after opened new t image (Some m) None level may many settings tables runs = absurd runs
 runs_behind law spelling v s after opened new t image (Some m) (Some job) level may many settings tables runs =
-    law spelling s after opened new t image m job level may.0.numbers many settings tables runs
+    law spelling s after opened new t image m job level (numbers_known m.merge.walks opened may.0.numbers) many settings tables runs
 
 -- ---- on another image
 

@@ -11,13 +11,14 @@ use Rattle.entry_model.specs.Newest.{KeysRise, entries_from}
 use Rattle.filter_api.specs.Spellings.{Spelling}
 use Rattle.map_model.specs.Slices.{between, first_pair, is_up_to}
 use Rattle.map_model.specs.SortedMap.{Bytes, Map}
+use Rattle.merge_rows.proofs.Begins.{walks_known}
 use Rattle.merge_rows.specs.Laws.{MergesAreWhole, StandingMerges}
 use Rattle.merge_rows.specs.Merges.{Merge, merge_from, numbered, rows_left, walk_at}
 use Rattle.merge_rows.specs.RowLaws.{MergedLaws}
 use Rattle.merge_rows.specs.Rows.{merged_rows}
-use Rattle.merge_rows.specs.Steps.{AreNumbersIn, numbers}
+use Rattle.merge_rows.specs.Steps.{AreNumbersIn, AreWalksIn, stands}
 use Rattle.state_model.proofs.Sayings.{newest_entries_rise}
-use Rattle.state_model.proofs.SoundLogs.{newest_all}
+use Rattle.state_model.proofs.SoundLogs.{logged_entries, newest_all}
 use Rattle.state_model.specs.Bounds.{is_passed, seek_bound}
 use Rattle.state_model.specs.State.{State}
 use Rattle.state_model.specs.View.{memory, state_map}
@@ -34,20 +35,16 @@ use Rattle.table_model.specs.Tables.{FilterBytes}
 -- ---- what a merge is made of
 
 pub memory_sound : (log : _) (memory : List Entry) → IsOfEntries log memory → AllByRecursion IsEntry memory
-memory_sound log memory of = subst (AllByRecursion IsEntry) (sym of.memory_is) (newest_all IsEntry of.entries of.sound)
+memory_sound log memory of = subst (AllByRecursion IsEntry) (sym of.memory_is) (newest_all IsEntry of.entries (logged_entries of.entries of.sound))
 
 pub there : (low : Bytes) (high : Option Bytes) (tables : List Opened) (which : List ℕ) → which ≡ numbers_admitting low high tables → AreNumbersIn tables which
 there low high tables which is = subst (AreNumbersIn tables) (sym is) (numbers_there low high tables)
 
-numbers_made : (which : List ℕ) (tables : List Opened) (low : Bytes) → numbers (map (λ (number : ℕ). record { number = number; walk = walk_at (numbered tables number) low }) which) ≡ which
-numbers_made [] tables low = refl
-numbers_made (number ∷ which) tables low = ap (λ (l : List ℕ). number ∷ l) (numbers_made which tables low)
-
--- the numbers of a merge that is made are those of its tables
+-- a merge that is made has room for the blocks of its tables
 pub made_numbers : (which : List ℕ) (tables : List Opened) (entries : Option (List Entry)) (low : Bytes) (merge : Merge) → merge ≡ merge_from which tables entries low false → AreNumbersIn tables which
-    → AreNumbersIn tables (numbers merge.walks) × (merge.drops ≡ false)
+    → AreWalksIn tables (stands merge.walks) × (merge.drops ≡ false)
 made_numbers which tables entries low merge is all =
-    (subst (AreNumbersIn tables) (sym (ap (λ (m : Merge). numbers m.walks) is ∙ numbers_made which tables low)) all, ap (λ (m : Merge). m.drops) is)
+    (subst (AreWalksIn tables) (sym (ap (λ (m : Merge). stands m.walks) is)) (walks_known which tables low all), ap (λ (m : Merge). m.drops) is)
 
 -- ---- the scan
 

@@ -58,6 +58,7 @@ pub record IsUnderWay (tells : Bool) (image : Image) (tables : List Opened) (hig
 pub stay_then : (tells : Bool) (tables : List Opened) (image : Image) (a b c : Merge) → SourcesStay tells tables image a b → SourcesStay tells tables image b c → SourcesStay tells tables image a c
 stay_then tells tables image a b c first second = record {
   numbers_are = second.numbers_are ∙ first.numbers_are;
+  stands_are = second.stands_are ∙ first.stands_are;
   drops_are = second.drops_are ∙ first.drops_are;
   sound = λ so sound. second.sound so (first.sound so sound);
 }
@@ -68,7 +69,7 @@ module _ (tells : Bool) (image : Image) (tables : List Opened) (high : Option By
 
   pub set_out : IsUnderWay tells image tables high old old before before
   set_out = record {
-    kept = record { numbers_are = refl; drops_are = refl; sound = λ _ sound. sound };
+    kept = record { numbers_are = refl; stands_are = refl; drops_are = refl; sound = λ _ sound. sound };
     pairs = λ _ _. refl;
     owed = λ _ _. omega arith;
   }

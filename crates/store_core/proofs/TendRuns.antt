@@ -28,7 +28,7 @@ use Rattle.level_merge.specs.declared.fault.Sliced.TheVariants as sliced
 use Rattle.manifest_model.specs.Rows.{IsTableRow, extent_of}
 use Rattle.manifest_model.specs.Version.{Version}
 use Rattle.map_model.specs.SortedMap.{Bytes}
-use Rattle.merge_rows.specs.Steps.{number_of_walk, numbers}
+use Rattle.merge_rows.specs.Steps.{AreWalksIn, number_of_walk, numbers, stands}
 use Rattle.state_model.proofs.Places.{entries_in_pages}
 use Rattle.table_file.specs.Opened.{Opened}
 use Rattle.table_file.specs.Writing.{made_filter}
@@ -103,12 +103,12 @@ module _ (spelling : Spelling) (cutoff : ℕ → List Leaf → ℕ) (v : Version
       few_by sliced.Working more within = omega (arith, more, within)
       few_by sliced.Ready more within = omega (arith, more, within)
 
-      pub slice_runs : (said : Sliced) → old.output ≤ 6 → HasMoreToMake old → numbers new.merge.walks ≡ numbers old.merge.walks → AreAllWritten new → MayMakeAsMany old new said → IsRun v tables new
-      slice_runs said small more same written within =
+      pub slice_runs : (said : Sliced) → old.output ≤ 6 → HasMoreToMake old → numbers new.merge.walks ≡ numbers old.merge.walks → stands new.merge.walks ≡ stands old.merge.walks → AreAllWritten new → MayMakeAsMany old new said → IsRun v tables new
+      slice_runs said small more same stood written within =
           let walks = walks_are same in
           let few = few_by said more within in
           record {
-            numbers = subst (AllByRecursion (λ number. number < length tables)) (sym same) run.numbers;
+            numbers = subst (AreWalksIn tables) (sym stood) run.numbers;
             apart = subst (AllPairs (λ number other. number ≢ other)) (sym same) run.apart;
             written = written;
             rows = rows_by small moves;
@@ -130,10 +130,10 @@ module _ (spelling : Spelling) (cutoff : ℕ → List Leaf → ℕ) (v : Version
       slice_moved = moved_by moves
 
       -- so it is of a slice that is answered, and nothing is said of one that is refused
-      pub slices_run : (r : Result Sliced JobFault) → old.output ≤ 6 → HasMoreToMake old → numbers new.merge.walks ≡ numbers old.merge.walks → OnOk r (AreAllWritten new) → IfOk r (MayMakeAsMany old new)
+      pub slices_run : (r : Result Sliced JobFault) → old.output ≤ 6 → HasMoreToMake old → numbers new.merge.walks ≡ numbers old.merge.walks → stands new.merge.walks ≡ stands old.merge.walks → OnOk r (AreAllWritten new) → IfOk r (MayMakeAsMany old new)
           → OnOk r (IsRun v tables new)
-      slices_run (Ok said) small more same written within = slice_runs said small more same written within
-      slices_run (Err why) small more same written within = tt
+      slices_run (Ok said) small more same stood written within = slice_runs said small more same stood written within
+      slices_run (Err why) small more same stood written within = tt
 
       pub slices_more : (r : Result Sliced JobFault) → HasMoreToMake old → numbers new.merge.walks ≡ numbers old.merge.walks → IfOk r (MayMakeAsMany old new)
           → IfOk r (λ (said : Sliced). said ≡ sliced.Working → HasMoreToMake new)

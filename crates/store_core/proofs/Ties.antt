@@ -8,7 +8,7 @@ use Rattle.disk_trait.specs.declared.fault.DiskFault.{DiskFault}
 use Rattle.disk_trait.specs.World.{Leads, Meanwhile, Now, ReadMoves, World, WriteMoves}
 use Rattle.disk_trait.proofs.Calls.{reads_keep}
 use Rattle.disk_trait.proofs.Moments.{framed, framed_now}
-use Rattle.entry_model.specs.Entries.{Entry, IsEntry, filled, gap, need}
+use Rattle.entry_model.specs.Entries.{Entry, IsLogged, filled, gap, need}
 use Rattle.entry_model.specs.Newest.{newest_entries}
 use Rattle.filter_api.specs.Spellings.{Spelling}
 use Rattle.image_model.specs.Stands.{StandsForMap}
@@ -54,7 +54,7 @@ gap_is entries = refl
 pub written_fits : (filter_bytes : FilterBytes) (s : State) (e : Entry) → nat_le (need e) (gap s.log) ≡ true → written filter_bytes s e ≡ Ok (logged s e)
 written_fits filter_bytes s e fits = ap (λ (b : Bool). cond b (Ok (logged s e)) (logged_then e (flushed filter_bytes s))) fits
 
-pub logged_sound : (filter_bytes : FilterBytes) (s : State) (e : Entry) → IsSound filter_bytes s → IsEntry e → filled s.log + need e ≤ 262144 → IsSound filter_bytes (logged s e)
+pub logged_sound : (filter_bytes : FilterBytes) (s : State) (e : Entry) → IsSound filter_bytes s → IsLogged e → filled s.log + need e ≤ 262144 → IsSound filter_bytes (logged s e)
 logged_sound filter_bytes s e sound is fits = written_sound filter_bytes s (logged s e) e sound is (written_fits filter_bytes s e (le-leb (need e) (gap s.log) (omega (arith, fits, gap_is s.log))))
 
 pub filled_logged : (entries : List Entry) (e : Entry) (before after : ℕ) → before ≡ filled entries → after + 1 ≡ before + need e → after ≡ filled (entries ++ e ∷ [])
@@ -91,7 +91,7 @@ module _ (law : OtherImageIsFollowed) (spelling : Spelling) (filter_bytes : Filt
 
   -- at Ok the state has the entry
   pub logged_tied : {T E : Type 0} (x : T) (after : StoreValue) → after.manifest ≡ store.manifest → after.tables ≡ store.tables → after.job ≡ store.job → after.blocks ≡ store.blocks → after.log.filled + 1 ≡ store.log.filled + need e
-      → after.memory.entries ≡ newest_entries (s.log ++ e ∷ []) → IsEntry e
+      → after.memory.entries ≡ newest_entries (s.log ++ e ∷ []) → IsLogged e
       → Leads {T = T} {E = E} (LogIs store.log.area s.log) (WithOrWithout store.log.area s.log e) (LogIs store.log.area (s.log ++ e ∷ [])) (Ok x) a b
       → Represents spelling filter_bytes after (logged s e) b
   logged_tied x after same_manifest same_tables same_job same_blocks filled_now memory_now is leads =
@@ -124,7 +124,7 @@ module _ (law : OtherImageIsFollowed) (spelling : Spelling) (filter_bytes : Filt
   own_leads result leads = subst (λ (y : Entry). Appends y result) same leads
 
   pub append_done : {T E U : Type 0} (u : T) (y : U) (after : StoreValue) → Appends {T = T} {E = E} x (Ok u) → after.manifest ≡ store.manifest → after.tables ≡ store.tables → after.job ≡ store.job → after.blocks ≡ store.blocks
-      → after.log.filled + 1 ≡ store.log.filled + need x → after.memory.entries ≡ newest_entries (s.log ++ e ∷ []) → IsEntry e → MovesTo spelling filter_bytes s (logged s e) (Ok y) after a b
+      → after.log.filled + 1 ≡ store.log.filled + need x → after.memory.entries ≡ newest_entries (s.log ++ e ∷ []) → IsLogged e → MovesTo spelling filter_bytes s (logged s e) (Ok y) after a b
   append_done u y after leads same_manifest same_tables same_job same_blocks filled_now memory_now is =
       let own = own_leads (Ok u) leads in
       record {

@@ -17,7 +17,7 @@ use Rattle.manifest_model.proofs.Rows.{rows_keep}
 use Rattle.manifest_model.specs.Laws.{IsVersion}
 use Rattle.manifest_model.specs.Rows.{extent_of}
 use Rattle.manifest_model.specs.Version.{Version, log_page_of}
-use Rattle.merge_rows.specs.Steps.{AreNumbersIn, numbers}
+use Rattle.merge_rows.proofs.Begins.{walks_then}
 use Rattle.state_model.proofs.SoundLogs.{memory_is_table, newest_none}
 use Rattle.table_file.specs.Opened.{Opened}
 use Rattle.store_core.specs.Caching.{AreNumbered, Cached}
@@ -36,11 +36,6 @@ none_of store begun cleared = record {
   memory_is = cleared;
 }
 
--- the numbers of tables are those of as many and one more
-numbers_then : (opened : Opened) (tables : List Opened) (which : List ℕ) → AreNumbersIn tables which → AreNumbersIn (opened ∷ tables) which
-numbers_then opened tables [] there = tt
-numbers_then opened tables (n ∷ more) there = (omega (arith, there.0), numbers_then opened tables more there.1)
-
 -- a merge runs on where a row comes before all others, the pages of which were free
 runs_with : (row : Row) (opened : Opened) (m : Manifest) (tables : List Opened) (running : Option JobValue)
     → IsOnDevice m.version.pages (extent_of row) × AllByRecursion (AreApart (extent_of row)) (extents_with m.version (outputs_in running)) → MayRunIn m.version tables running
@@ -49,7 +44,7 @@ runs_with row opened m tables None free may = tt
 runs_with row opened m tables (Some run) free may = (
   record {
     apart = may.0.apart;
-    numbers = numbers_then opened tables (numbers run.merge.walks) may.0.numbers;
+    numbers = walks_then opened tables run.merge.walks may.0.numbers;
     written = may.0.written;
     rows = may.0.rows;
     laid = record {

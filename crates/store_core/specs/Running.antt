@@ -9,7 +9,7 @@ use Rattle.level_merge.specs.Follows.{Follows}
 use Rattle.level_merge.specs.JobValue.{AreAllWritten, JobValue}
 use Rattle.manifest_model.specs.Rows.{IsTableRow, extent_of}
 use Rattle.manifest_model.specs.Version.{Version}
-use Rattle.merge_rows.specs.Steps.{AreNumbersIn, numbers}
+use Rattle.merge_rows.specs.Steps.{AreWalksIn, numbers, stands}
 use Rattle.state_model.specs.State.{Job, State}
 use Rattle.table_file.specs.Opened.{Opened}
 
@@ -30,7 +30,7 @@ extents_with v outputs = map extent_of (v.rows ++ outputs)
 -- version, and they are no more than the tables that it reads.
 pub record IsRun (v : Version) (tables : List Opened) (m : JobValue) : Type 0 where
   pub apart : AllPairs (λ number other. number ≢ other) (numbers m.merge.walks)
-  pub numbers : AreNumbersIn tables (numbers m.merge.walks)
+  pub numbers : AreWalksIn tables (stands m.merge.walks)
   pub written : AreAllWritten m
   pub rows : AllByRecursion IsTableRow m.outputs
   pub laid : AreLaid v.pages (extents_with v m.outputs)

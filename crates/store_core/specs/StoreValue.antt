@@ -2,7 +2,7 @@
 use Rattle.std.specs.Prelude.{◌≡◌, ◌<◌, ◌≤◌, Bool, List, length, map, Option}
 use Rattle.std.specs.List.{AllByRecursion}
 use Rattle.byte_fields.specs.declared.parts.Row.{Row}
-use Rattle.entry_model.specs.Entries.{Entry, IsEntry, filled}
+use Rattle.entry_model.specs.Entries.{Entry, IsLogged, filled}
 use Rattle.entry_model.specs.Newest.{newest_entries}
 use Rattle.key_base.specs.Limits.{log_bytes}
 use Rattle.level_merge.specs.JobValue.{JobValue}
@@ -35,7 +35,7 @@ rows_of tables = map (λ (t : Opened). t.row) tables
 -- the log ends behind the records of some entries, and the newest of them are in memory
 pub record IsOfEntries (log : Position) (memory : List Entry) : Type 0 where
   pub entries : List Entry
-  pub sound : AllByRecursion IsEntry entries
+  pub sound : AllByRecursion IsLogged entries
   pub fits : filled entries < log_bytes
   pub filled_is : log.filled ≡ filled entries
   pub memory_is : memory ≡ newest_entries entries

@@ -3,7 +3,7 @@ ghost use Rattle.std.specs.Prelude.{◌≡◌, ◌≤◌, ◌<◌, ◌+◌, ◌*
 ghost use Rattle.std.specs.List.{AllByRecursion};
 ghost use Rattle.block_model.specs.Places.{FitsDevice};
 ghost use Rattle.disk_trait.specs.World.{Moves, ReadMoves};
-ghost use Rattle.entry_model.specs.Entries.{IsEntry, filled};
+ghost use Rattle.entry_model.specs.Entries.{IsLogged, filled};
 ghost use Rattle.entry_model.specs.Newest.{newest_entries};
 ghost use Rattle.image_model.specs.Stands.{IsStateOf};
 ghost use Rattle.key_base.specs.Limits.{log_bytes, max_tables};
@@ -149,7 +149,7 @@ impl<F: RangeFilter> Store<F> {
         requires rows { rows_of tables.tables ≡ version.version.rows }
         requires area { version.version.log_page ≡ log_page_of log.area }
         requires log { log.filled ≡ filled entries.items }
-        requires sound { AllByRecursion IsEntry entries.items }
+        requires sound { AllByRecursion IsLogged entries.items }
         requires fits { filled entries.items < log_bytes }
         ensures store { IfOk result (λ store. store ≡ record { stopped = false; manifest = version; tables = tables.tables; job = None; log = log; memory = store.memory; buffer = store.buffer; blocks = none_cached }) }
         ensures memory { IfOk result (λ store. store.memory.entries ≡ newest_entries entries.items) }

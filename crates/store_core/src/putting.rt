@@ -2,7 +2,7 @@
 ghost use Rattle.std.specs.Prelude.{◌≡◌, ◌≤◌, ◌+◌, ◌*◌, ◌||◌, Bool, true, false, Some, None, IsTrue, IfErr, OnOk, MatchResult};
 ghost use Rattle.block_model.specs.Pages.{page_bytes};
 ghost use Rattle.disk_trait.specs.World.{ReadMoves, WriteMoves};
-ghost use Rattle.entry_model.specs.Entries.{IsEntry, del_entry, entry_of, need, put_entry};
+ghost use Rattle.entry_model.specs.Entries.{IsLogged, del_entry, entry_of, need, put_entry};
 ghost use Rattle.gate_log.specs.Values.{value_of};
 ghost use Rattle.key_base.specs.Limits.{log_bytes};
 ghost use Rattle.line_model.specs.Limits.{limit_of};
@@ -82,7 +82,7 @@ impl<F: RangeFilter> Store<F> {
         key: &[u8],
         value: Option<&[u8]>,
     ) -> Result<(), StoreError>
-        requires sound { IsEntry (entry_of key.now (value_of value)) }
+        requires sound { IsLogged (entry_of key.now (value_of value)) }
         requires running { self.old.stopped ≡ false }
         ensures wrote { (s : State) → IsTrue D.tells → Represents F.spelling (filter_bytes_of F.spelling F.built_cutoff) self.old s (D.world disk.old)
             → WroteEntry F.spelling (filter_bytes_of F.spelling F.built_cutoff) s (written (filter_bytes_of F.spelling F.built_cutoff) s (entry_of key.now (value_of value.entry))) result self.new (D.world disk.old) (D.world disk.new) }
@@ -106,7 +106,7 @@ impl<F: RangeFilter> Store<F> {
 
     // Writes an entry whose record fits the log area. It stands in memory once it lasts.
     fn append<D: Disk>(&mut self, disk: &mut D, entry: Entry) -> Result<(), StoreError>
-        requires sound { IsEntry entry }
+        requires sound { IsLogged entry }
         requires running { self.old.stopped ≡ false }
         requires fits { self.old.log.filled + need entry ≤ log_bytes }
         requires spare { 1 ≤ self.old.memory.spare }

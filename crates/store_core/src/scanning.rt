@@ -11,7 +11,7 @@ ghost use Rattle.map_model.specs.Slices.{between, first_pair, is_up_to, slice};
 ghost use Rattle.map_model.specs.SortedMap.{Bytes, Map};
 ghost use Rattle.merge_rows.specs.Merges.{rows_left};
 ghost use Rattle.merge_rows.specs.Reads.{OnlyReads, SomeBlock};
-ghost use Rattle.merge_rows.specs.Steps.{AreNumbersIn, IsSoundMerge, SourcesStay, numbers};
+ghost use Rattle.merge_rows.specs.Steps.{AreNumbersIn, AreWalksIn, IsSoundMerge, SourcesStay, numbers, stands};
 ghost use Rattle.state_model.specs.Bounds.{seek_bound};
 ghost use Rattle.state_model.specs.State.{State};
 ghost use Rattle.state_model.specs.View.{state_map};
@@ -52,14 +52,14 @@ impl<'s, F: RangeFilter> Model for Scan<'s, F> {
     ghost use Rattle.std.specs.Prelude.{◌≡◌, false, None, if◌then◌else◌};
     ghost use Rattle.std.specs.Option.{option_and_then, option_map};
     ghost use Rattle.entry_model.specs.Entries.{Entry};
-    ghost use Rattle.merge_rows.specs.Steps.{AreNumbersIn, numbers};
+    ghost use Rattle.merge_rows.specs.Steps.{AreNumbersIn, AreWalksIn, numbers, stands};
     ghost use Rattle.store_core.specs.Scans.{ScanWalk, pair_at};
 
     ghost Value = { ScanWalk };
 
     ghost view = { λ s. record { tables = s.tables.now.tables; merge = s.rows; high = option_map (λ v. v.items) s.high; left = s.left; now = pair_at s.found s.rows.now } };
 
-    ghost invariant = { λ s. AreNumbersIn s.tables.now.tables (numbers s.rows.walks) × (s.rows.drops ≡ false) };
+    ghost invariant = { λ s. AreWalksIn s.tables.now.tables (stands s.rows.walks) × (s.rows.drops ≡ false) };
 }
 
 // Whether the table's filter admits the keys between two bounds; without an upper one it is not asked.
@@ -136,7 +136,7 @@ fn next_pair<F: RangeFilter, D: Disk>(
     tables: &Tables<F>,
     high: &Option<Vec<u8>>,
 ) -> Result<bool, TableFault>
-    requires there { AreNumbersIn tables.now.tables (numbers rows.old.walks) }
+    requires there { AreWalksIn tables.now.tables (stands rows.old.walks) }
     requires keeps { rows.old.drops ≡ false }
     ensures kept { SourcesStay D.tells tables.now.tables (D.world disk.old).seen.held rows.old rows.new }
     ensures some { IfOk result (λ found. found ≡ true → is_some (pair_in rows.new.now) ≡ true) }

@@ -9,7 +9,7 @@ use Rattle.entry_model.specs.Entries.{Entry}
 use Rattle.block_model.specs.Block.{block_bytes}
 use Rattle.block_model.specs.Index.{IndexRow, index_row_of, row_pages}
 use Rattle.block_model.specs.Pages.{block_pages}
-use Rattle.block_model.proofs.Lengths.{block_fills}
+use Rattle.block_model.proofs.Cutting.{block_fills_pages}
 use Rattle.table_file.specs.BlockRows.{AreRowsOf, StandFrom, block_at, row_seen, rows_seen, summed_rows, unsummed_row_of}
 use Rattle.table_file.specs.Search.{row_at}
 use Rattle.table_file.specs.declared.block_row.BlockRow.{BlockRow}
@@ -145,7 +145,7 @@ all_summed zero (b ∷ more) is = absurd (omega (arith, is))
 all_summed (suc n) [] is = refl
 all_summed (suc n) (b ∷ more) is =
     let rest = flat_map block_bytes more in
-    let long : length (block_bytes b) ≡ 4096 * block_pages b = block_fills b in
+    let long : length (block_bytes b) ≡ 4096 * block_pages b = block_fills_pages b in
     ap₂ (λ (x y : Bytes). record (unsummed_row_of b) { sum = fnv_of x } ∷ summed_rows n (map unsummed_row_of more) y)
     (take_at (block_bytes b) rest (4096 * block_pages b) long) (drop_at (block_bytes b) rest (4096 * block_pages b) long)
     ∙ ap (λ (rs : List IndexRow). index_row_of b ∷ rs) (all_summed n more (omega (arith, is)))

@@ -9,6 +9,7 @@ use Rattle.map_model.specs.SortedMap.{Bytes}
 use Rattle.entry_model.specs.Entries.{Entry, IsEntry, keys_of}
 use Rattle.block_model.specs.Block.{AreEntries, IsBlock, IsTable, block_bytes}
 use Rattle.block_model.specs.BlockReading.{block_in}
+use Rattle.block_model.specs.Formats.{Prefixed}
 use Rattle.block_model.specs.Index.{IndexRow, index_row_of, row_pages}
 use Rattle.block_model.specs.Laws.{joined}
 use Rattle.key_base.specs.ByteOrder.{is_before}
@@ -17,8 +18,8 @@ use Rattle.block_model.specs.Pages.{block_pages, blocks_of, blocks_with, data_pa
 use Rattle.block_model.proofs.Bounds.{pages_bound}
 use Rattle.block_model.proofs.BlocksRead.{block_again}
 use Rattle.block_model.proofs.Cutting.{all_append, blocks_are_sound, blocks_step}
-use Rattle.block_model.proofs.EntriesRead.{eqb_zero}
-use Rattle.block_model.proofs.Lengths.{block_fills, blocks_fill}
+use Rattle.block_model.proofs.OldEntriesRead.{eqb_zero}
+use Rattle.block_model.proofs.Cutting.{block_fills_pages, blocks_fill}
 use Rattle.block_format.specs.Building.{takes}
 use Rattle.table_file.specs.BlockRows.{StandFrom, rows_seen, unsummed_row_of}
 use Rattle.table_file.specs.Building.{Holds, closed_in, entries_with, with_open}
@@ -30,23 +31,23 @@ row_pages_are : (block : List Entry) → (index_row_of block).pages ≡ block_pa
 unfolding index_row_of
 row_pages_are block = refl
 
-rows_again : (row_of : List Entry → IndexRow) → ((b : List Entry) → (row_of b).pages ≡ block_pages b) → (blocks : List (List Entry)) → AllByRecursion IsBlock blocks
+rows_again : (row_of : List Entry → IndexRow) → ((b : List Entry) → (row_of b).pages ≡ block_pages b) → (blocks : List (List Entry)) → AllByRecursion (IsBlock Prefixed) blocks
     → closed_in (map row_of blocks) (flat_map block_bytes blocks) ≡ blocks
 rows_again row_of pages [] all = refl
 rows_again row_of pages (b ∷ more) all =
     let n = 4096 * (row_of b).pages in
     let rest = flat_map block_bytes more in
-    let long : length (block_bytes b) ≡ n = block_fills b ∙ ap (λ (k : ℕ). 4096 * k) (sym (pages b)) in
+    let long : length (block_bytes b) ≡ n = block_fills_pages b ∙ ap (λ (k : ℕ). 4096 * k) (sym (pages b)) in
     let front : take n (block_bytes b ++ rest) ≡ block_bytes b = take_at (block_bytes b) rest n long in
     let back : drop n (block_bytes b ++ rest) ≡ rest = drop_at (block_bytes b) rest n long in
     ap₂ (λ (x y : Bytes). block_in x ∷ closed_in (map row_of more) y) front back
     ∙ ap₂ (λ (x : List Entry) (xs : List (List Entry)). x ∷ xs) (block_again b all.0).1 (rows_again row_of pages more all.1)
 
 -- before they are summed, and then
-closed_again : (blocks : List (List Entry)) → AllByRecursion IsBlock blocks → closed_in (map unsummed_row_of blocks) (flat_map block_bytes blocks) ≡ blocks
+closed_again : (blocks : List (List Entry)) → AllByRecursion (IsBlock Prefixed) blocks → closed_in (map unsummed_row_of blocks) (flat_map block_bytes blocks) ≡ blocks
 closed_again = rows_again unsummed_row_of (λ b. refl)
 
-summed_again : (blocks : List (List Entry)) → AllByRecursion IsBlock blocks → closed_in (map index_row_of blocks) (flat_map block_bytes blocks) ≡ blocks
+summed_again : (blocks : List (List Entry)) → AllByRecursion (IsBlock Prefixed) blocks → closed_in (map index_row_of blocks) (flat_map block_bytes blocks) ≡ blocks
 summed_again = rows_again index_row_of row_pages_are
 
 pub rows_pages : (blocks : List (List Entry)) → row_pages (map unsummed_row_of blocks) ≡ sum_by block_pages blocks
@@ -100,9 +101,9 @@ last_of_all P [] y all = all.0
 last_of_all P (x ∷ xs) y all = last_of_all P xs y all.1
 
 -- the open block, where it has an entry
-open_sound : (closed : List (List Entry)) (last : List Entry) → 0 < length last → AllByRecursion IsBlock (with_open closed last) → IsBlock last
+open_sound : (closed : List (List Entry)) (last : List Entry) → 0 < length last → AllByRecursion (IsBlock Prefixed) (with_open closed last) → IsBlock Prefixed last
 open_sound closed [] some all = absurd (omega (arith, some))
-open_sound closed (b ∷ more) some all = last_of_all IsBlock closed (b ∷ more) all
+open_sound closed (b ∷ more) some all = last_of_all (IsBlock Prefixed) closed (b ∷ more) all
 
 -- the closed blocks as they are read of bytes and rows
 abbrev pub IsBuilt : List Entry → Bytes → List IndexRow → List Entry → List Bytes → Type 0
@@ -133,9 +134,9 @@ module _ (closed : List (List Entry)) (bytes : Bytes) (rows : List IndexRow) (la
   pub is_table : 0 < length all → IsTable all
   is_table some = record { sound = holds.sound; some = some; rising = holds.rising }
 
-  pub open_is : 0 < length last → IsBlock last
+  pub open_is : 0 < length last → IsBlock Prefixed last
   open_is some =
-      open_sound closed last some (subst (AllByRecursion IsBlock) holds.cut (blocks_are_sound all (is_table (omega (arith, length-append (joined closed) last, some)))))
+      open_sound closed last some (subst (AllByRecursion (IsBlock Prefixed)) holds.cut (blocks_are_sound all (is_table (omega (arith, length-append (joined closed) last, some)))))
 
   module _ (e : Entry) (few : AreEntries (all ++ e ∷ [])) (rises : Follow is_any (keys_of (all ++ e ∷ []))) where
     more_keys : keys_of (all ++ e ∷ []) ≡ keys ++ e.key ∷ []
@@ -165,7 +166,7 @@ module _ (closed : List (List Entry)) (bytes : Bytes) (rows : List IndexRow) (la
       rows_are = map-append unsummed_row_of closed (last ∷ []) ∙ ap (λ (rs : List IndexRow). rs ++ unsummed_row_of last ∷ []) holds.rows_are;
       keys_are = ap keys_of in_next ∙ more_keys;
       cut = ap blocks_of in_next ∙ blocks_step all e ∙ ap (λ (bs : List (List Entry)). blocks_with bs e) holds.cut ∙ behind closed last e room;
-      each = all_append IsBlock closed (last ∷ []) holds.each (open_is (some_open last e room), tt);
+      each = all_append (IsBlock Prefixed) closed (last ∷ []) holds.each (open_is (some_open last e room), tt);
       sound = subst AreEntries (sym in_next) few;
       rising = subst (λ (es : List Entry). Follow is_any (keys_of es)) (sym in_next) rises;
       begun = λ is. absurd (never is);
@@ -196,7 +197,7 @@ module _ (closed : List (List Entry)) (bytes : Bytes) (rows : List IndexRow) (la
   holds_closed some = (
     flat_map-append block_bytes closed (last ∷ []) ∙ ap₂ (λ (x y : Bytes). x ++ y) holds.bytes_are (append-nil (block_bytes last)),
     map-append unsummed_row_of closed (last ∷ []) ∙ ap (λ (rs : List IndexRow). rs ++ unsummed_row_of last ∷ []) holds.rows_are,
-    summed_again (closed ++ last ∷ []) (all_append IsBlock closed (last ∷ []) holds.each (open_is some, tt)),
+    summed_again (closed ++ last ∷ []) (all_append (IsBlock Prefixed) closed (last ∷ []) holds.each (open_is some, tt)),
   )
 
   pub closed_long : 0 < length last → length (bytes ++ block_bytes last) ≡ 4096 * row_pages (rows ++ unsummed_row_of last ∷ [])
@@ -226,7 +227,7 @@ module _ (closed : List (List Entry)) (bytes : Bytes) (rows : List IndexRow) (la
 pub are_more : (entries : List Entry) (e : Entry) → AreEntries entries → IsEntry e → length entries < 2 ^ 32 - 1 → AreEntries (entries ++ e ∷ [])
 are_more entries e are is few = record { each = all_append IsEntry entries (e ∷ []) are.each (is, tt); few = omega (arith, length-append entries (e ∷ []), few) }
 
-pub few_pages : (block : List Entry) → IsBlock block → block_pages block ≤ 17
+pub few_pages : (block : List Entry) → IsBlock Prefixed block → block_pages block ≤ 257
 few_pages block is = pages_bound block (record { each = is.each; some = is.some; few = is.few; small = is.small })
 
 -- ---- none yet

@@ -6,6 +6,8 @@ mod IndexWalks
 mod IntoTable
 mod Damages
 mod Lookups
+mod Lasts
+mod Rooms
 mod PartsMade
 mod Searches
 mod Standing

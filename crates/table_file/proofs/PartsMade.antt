@@ -14,7 +14,8 @@ use Rattle.block_model.specs.Index.{Index, IndexRow, IsIndex, index_bytes, index
 use Rattle.block_model.specs.Laws.{joined}
 use Rattle.block_model.specs.Pages.{blocks_of, data_pages, first_key, index_length, pages_for}
 use Rattle.block_model.proofs.Cutting.{blocks_joined}
-use Rattle.block_model.proofs.Lengths.{data_fills, index_long}
+use Rattle.block_model.proofs.Cutting.{data_fills}
+use Rattle.block_model.proofs.Lengths.{index_long}
 use Rattle.block_model.proofs.TableIndex.{index_sound}
 use Rattle.table_model.specs.Tables.{filter_bytes_of, table_pages}
 use Rattle.table_model.specs.Written.{row_for}

@@ -1,6 +1,6 @@
 -- What is read of a table that stands on the device, block by block, key by key and in a walk.
 use Rattle.std.proofs.Common.{◌≡◌, ◌≤◌, ◌<◌, ◌+◌, ◌*◌, ◌-◌, ℕ, suc, Bool, true, false, cond, not, List, [], ◌∷◌, ◌++◌, length, drop, get_or, refl, sym, ap, ap₂, ◌∙◌, subst, arith, inl, inr, append-nil}
-use Rattle.std.specs.Prelude.{Option, Some, None, flat_map, map, nat_lt, ◌&&◌, is_some}
+use Rattle.std.specs.Prelude.{Option, Some, None, map, nat_lt, ◌&&◌, is_some}
 use Rattle.std.specs.Option.{option_map}
 use Rattle.std.specs.List.{AllByRecursion, position_or_len}
 use Rattle.std.proofs.lemmas.Bool.{le-ltb, lt-ltb, ltb-false, ltb-true}
@@ -14,21 +14,17 @@ use Rattle.filter_model.specs.Leaves.{Leaf, leaves_of}
 use Rattle.map_model.specs.SortedMap.{Bytes}
 use Rattle.entry_model.specs.Entries.{Entry, keys_of}
 use Rattle.entry_model.specs.Newest.{entries_from}
-use Rattle.block_model.specs.Block.{IsBlock, block_bytes}
 use Rattle.block_model.specs.BlockReading.{block_fault, block_in}
 use Rattle.block_model.specs.Index.{IndexRow, index_row_of}
 use Rattle.block_model.specs.Laws.{joined}
 use Rattle.block_model.specs.Order.{Follow, is_any, is_from}
 use Rattle.block_model.specs.Pages.{last_key}
 use Rattle.block_model.specs.Places.{byte_of_page}
-use Rattle.block_model.proofs.BlocksRead.{block_again}
-use Rattle.block_model.proofs.Bounds.{weaker}
-use Rattle.block_model.proofs.Lengths.{block_fills}
 use Rattle.block_model.proofs.Sizes.{all_at}
 use Rattle.table_model.proofs.Shown.{shown_parts}
 use Rattle.byte_fields.specs.Faults.{Fault}
 use Rattle.byte_fields.specs.declared.parts.Damage.{Damage}
-use Rattle.block_format.specs.Spans.{kept_from}
+use Rattle.block_format.specs.Walking.{kept_from}
 use Rattle.table_file.specs.Faults.{IsNoDamage}
 use Rattle.table_file.specs.Laws.{StandingBlocks, StandingIsKept, StandingKeys, StandingWalks}
 use Rattle.table_file.specs.Opened.{Opened}
@@ -36,9 +32,13 @@ use Rattle.table_file.specs.Search.{IsGetFault, IsSoundBlock, bytes_at, first_bl
 use Rattle.table_file.specs.Walks.{BeginsWell, CursorWalk, WalkGoesOn, blocks_on, blocks_there, joined_from}
 use Rattle.table_file.specs.declared.fault.TableFault.{TableFault}
 use Rattle.table_file.specs.declared.fault.TableFault.TheVariants as table
-use Rattle.table_model.proofs.Kept.{at_kept}
+use Rattle.table_model.proofs.Kept.{at_kept, kept_pieces}
+use Rattle.table_model.specs.Pieces.{index_of_pieces}
+use Rattle.table_model.specs.Pieces.{IsPiece, blocks_in, end_to_end, row_of_piece}
+use Rattle.table_model.proofs.Pieces.{piece_fills, row_pages_are}
+use Rattle.table_file.proofs.Lasts.{same_first, same_last, same_place}
 use Rattle.table_file.proofs.Lookups.{behind_last, from_above, front_follows, last_append, lasts_rise, row_last}
-use Rattle.table_file.proofs.Stands.{answer, block_is_sound, least_is, no_answer, row_pages_are, rows_are, there}
+use Rattle.table_file.proofs.Stands.{answer, block_is_sound, each_some, lasts_are, least_is, many_rows, no_answer, rows_are, there}
 use Rattle.table_file.proofs.Walks.{at_block}
 
 -- ---- what is written elsewhere
@@ -46,7 +46,7 @@ use Rattle.table_file.proofs.Walks.{at_block}
 pub standing_kept : StandingIsKept
 standing_kept spelling t blocks at n old new apart torn s = record {
   at = at_kept spelling t.row blocks at n old new apart torn s.at;
-  index_is = s.index_is;
+  index_is = s.index_is ∙ sym (ap index_of_pieces (kept_pieces spelling t.row blocks at n old new apart torn s.at));
   hash_is = s.hash_is;
   real_is = s.real_is;
   leaves_are = s.leaves_are;
@@ -57,17 +57,17 @@ no_row = record { pages = 0; sum = 0; last = [] }
 
 -- ---- the blocks
 
-stood : (page : ℕ) (blocks : List (List Entry)) (image : Image) → AllByRecursion IsBlock blocks → Shows (byte_of_page page) (flat_map block_bytes blocks) image
-    → blocks_there page (map index_row_of blocks) image ≡ blocks
+stood : (page : ℕ) (pieces : List Bytes) (image : Image) → AllByRecursion IsPiece pieces → Shows (byte_of_page page) (end_to_end pieces) image
+    → blocks_there page (map row_of_piece pieces) image ≡ blocks_in pieces
 stood page [] image each shown = refl
-stood page (b ∷ more) image each shown =
-    let parts = shown_parts (byte_of_page page) (block_bytes b) (flat_map block_bytes more) image shown in
-    let long : 4096 * (index_row_of b).pages ≡ length (block_bytes b) = omega (arith, block_fills b, row_pages_are b) in
-    let place : byte_of_page page + length (block_bytes b) ≡ byte_of_page (page + (index_row_of b).pages) = omega (arith, long) in
-    let here : block_in (window image (byte_of_page page) (4096 * (index_row_of b).pages)) ≡ b =
-    ap (λ (n : ℕ). block_in (window image (byte_of_page page) n)) long ∙ ap block_in parts.0 ∙ (block_again b each.0).1 in
+stood page (p ∷ more) image each shown =
+    let parts = shown_parts (byte_of_page page) p (end_to_end more) image shown in
+    let long : 4096 * (row_of_piece p).pages ≡ length p = omega (arith, piece_fills p each.0.whole, row_pages_are p) in
+    let place : byte_of_page page + length p ≡ byte_of_page (page + (row_of_piece p).pages) = omega (arith, long) in
+    let here : block_in (window image (byte_of_page page) (4096 * (row_of_piece p).pages)) ≡ block_in p =
+    ap (λ (n : ℕ). block_in (window image (byte_of_page page) n)) long ∙ ap block_in parts.0 in
     ap₂ (λ (x : List Entry) (xs : List (List Entry)). x ∷ xs) here
-    (stood (page + (index_row_of b).pages) more image each.1 (subst (λ (p : ℕ). Shows p (flat_map block_bytes more) image) place parts.1))
+    (stood (page + (row_of_piece p).pages) more image each.1 (subst (λ (q : ℕ). Shows q (end_to_end more) image) place parts.1))
 
 no_some : (f : Fault → Damage) (o : Option Fault) (d : Damage) → o ≡ None → option_map f o ≡ Some d → ⊥
 no_some f None d none is = absurd cc
@@ -77,8 +77,8 @@ pub standing_blocks : StandingBlocks
 standing_blocks spelling t blocks image s =
     let rows = rows_are spelling t blocks image s in
     let on : blocks_on t image ≡ blocks =
-    ap (λ (rs : List IndexRow). blocks_there t.row.first_page rs image) rows ∙ stood t.row.first_page blocks image s.at.each s.at.blocks_shown in
-    let many : length t.index.rows ≡ length blocks = ap length rows ∙ length-map blocks index_row_of in
+    ap (λ (rs : List IndexRow). blocks_there t.row.first_page rs image) rows ∙ stood t.row.first_page s.at.pieces image s.at.each s.at.blocks_shown ∙ s.at.read in
+    let many : length t.index.rows ≡ length blocks = many_rows spelling t blocks image s in
     record {
       many = many;
       on_device = on;
@@ -151,10 +151,10 @@ some_within false n = refl
 
 pub standing_keys : StandingKeys
 standing_keys spelling t blocks image s =
-    let rows = rows_are spelling t blocks image s in
+    let lasts = lasts_are spelling t blocks image s in
     let least = least_is spelling t blocks image s in
-    let many : length t.index.rows ≡ length blocks = ap length rows ∙ length-map blocks index_row_of in
-    let each = weaker IsBlock (λ b. 1 ≤ length b) (λ b is. is.some) blocks s.at.each in
+    let many : length t.index.rows ≡ length blocks = many_rows spelling t blocks image s in
+    let each = each_some spelling t blocks image s in
     let some : 1 ≤ length blocks = omega (arith, some_blocks blocks s.at.table.some) in
     record {
       there = λ key n is. there spelling t blocks image s key n is;
@@ -162,7 +162,8 @@ standing_keys spelling t blocks image s =
       no_answer = λ key none. no_answer spelling t blocks image s key none;
       least = least;
       greatest =
-          ap₂ (λ (rs : List IndexRow) (n : ℕ). (row_at rs (n - 1)).last) rows many
+          same_last t.index.rows (map index_row_of blocks) (length t.index.rows - 1) lasts
+          ∙ ap (λ (n : ℕ). (row_at (map index_row_of blocks) (n - 1)).last) many
           ∙ greatest_row is_any blocks each some;
       searched = λ key.
           let point_is : point t.filter.hash_bits t.filter.real_bits t.filter.leaves key
@@ -170,7 +171,7 @@ standing_keys spelling t blocks image s =
           ap (λ (ls : List Leaf). point t.filter.hash_bits t.filter.real_bits ls key) s.leaves_are
           ∙ ap₂ (λ (h r : ℕ). point h r (leaves_of t.row.hash_bits t.row.real_bits (keys_of (joined blocks))) key) s.hash_is s.real_is in
           let last : is_some (first_block t.index.rows key) ≡ is_from key (last_key (joined blocks)) =
-          ap (λ (rs : List IndexRow). is_some (first_block rs key)) rows
+          ap is_some (same_first key t.index.rows (map index_row_of blocks) lasts)
           ∙ some_within (nat_lt (place_of key blocks) (length (map index_row_of blocks))) (place_of key blocks)
           ∙ within key is_any blocks each some s.at.table.rising in
           some_of (point t.filter.hash_bits t.filter.real_bits t.filter.leaves key) (is_from t.index.least key) (first_block t.index.rows key)
@@ -235,15 +236,14 @@ whole low test ((x ∷ b) ∷ more) each f =
 
 pub standing_walks : StandingWalks
 standing_walks spelling t blocks image s =
-    let rows = rows_are spelling t blocks image s in
-    let each = weaker IsBlock (λ b. 1 ≤ length b) (λ b is. is.some) blocks s.at.each in
+    let lasts = lasts_are spelling t blocks image s in
+    let each = each_some spelling t blocks image s in
     record {
       all = λ low.
-          ap (λ (rs : List IndexRow). joined_from (Some low) (drop (position_or_len (λ (row : IndexRow). is_from low row.last) rs) blocks)) rows
+          ap (λ (n : ℕ). joined_from (Some low) (drop n blocks)) (same_place low t.index.rows (map index_row_of blocks) lasts)
           ∙ whole low is_any blocks each s.at.table.rising;
       begins = λ low.
-          subst (λ (rs : List IndexRow). position_or_len (λ (row : IndexRow). is_from low row.last) rs < length blocks
-          → 1 ≤ length (entries_from (get_or blocks (position_or_len (λ (row : IndexRow). is_from low row.last) rs) []) low)) (sym rows)
+          subst (λ (k : ℕ). k < length blocks → 1 ≤ length (entries_from (get_or blocks k []) low)) (sym (same_place low t.index.rows (map index_row_of blocks) lasts))
           (λ lt.
           let n = place_of low blocks in
           let inside : n < length (map index_row_of blocks) = omega (arith, lt, length-map blocks index_row_of) in

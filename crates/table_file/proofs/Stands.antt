@@ -1,8 +1,8 @@
 -- What is read of a table that stands on the device.
-use Rattle.std.proofs.Common.{◌≡◌, ◌≤◌, ◌<◌, ◌+◌, ◌*◌, ℕ, zero, suc, Bool, true, false, cond, List, [], ◌∷◌, length, take, get_or, refl, sym, ap, ap₂, ◌∙◌, arith, inl, inr}
-use Rattle.std.specs.Prelude.{Option, Some, None, flat_map, map, nat_lt}
+use Rattle.std.proofs.Common.{◌≡◌, ◌≤◌, ◌<◌, ◌+◌, ◌*◌, ℕ, zero, suc, Bool, true, false, cond, List, [], ◌∷◌, length, take, get_or, refl, sym, ap, ap₂, ◌∙◌, subst, arith, inl, inr}
+use Rattle.std.specs.Prelude.{Option, Some, None, map, nat_lt}
 use Rattle.std.specs.Option.{option_map}
-use Rattle.std.specs.List.{Contains, position_or_len}
+use Rattle.std.specs.List.{AllByRecursion, Contains, position_or_len}
 use Rattle.std.proofs.lemmas.Bool.{ltb-false}
 use Rattle.std.proofs.lemmas.List.{get_or-map, length-map}
 use Rattle.std.proofs.lemmas.List.Quantifiers.{position-Some}
@@ -16,19 +16,15 @@ use Rattle.filter_model.proofs.Stubs.{no_key_is_denied}
 use Rattle.map_model.specs.SortedMap.{Bytes}
 use Rattle.entry_model.specs.Entries.{Entry, keys_of}
 use Rattle.entry_model.specs.Newest.{lookup}
-use Rattle.block_model.specs.Block.{IsBlock, block_bytes}
 use Rattle.block_model.specs.BlockReading.{block_fault, block_in}
 use Rattle.block_model.specs.Index.{Index, IndexRow, index_row_of, row_pages}
 use Rattle.block_model.specs.Laws.{joined}
 use Rattle.block_model.specs.Order.{is_from}
-use Rattle.block_model.specs.Pages.{block_pages, first_key}
+use Rattle.block_model.specs.Pages.{first_key}
 use Rattle.block_model.specs.Places.{byte_of_page}
-use Rattle.block_model.proofs.BlocksRead.{block_again}
-use Rattle.block_model.proofs.Bounds.{weaker}
-use Rattle.block_model.proofs.Lengths.{block_fills}
 use Rattle.block_model.proofs.Sizes.{all_at}
-use Rattle.table_model.specs.Images.{index_of_blocks}
-use Rattle.table_model.proofs.OneTable.{rows_of_index}
+use Rattle.table_model.specs.Pieces.{IsPiece, end_to_end, row_of_piece}
+use Rattle.table_model.proofs.Pieces.{least_of_index, piece_fills, row_pages_are, row_sum, rows_of_index}
 use Rattle.table_model.proofs.Sound.{filter_of_keys, index_read}
 use Rattle.table_model.proofs.Shown.{shown_parts}
 use Rattle.byte_fields.specs.Faults.{Fault}
@@ -41,37 +37,26 @@ use Rattle.table_file.specs.declared.fault.TableFault.{TableFault}
 use Rattle.table_file.specs.declared.fault.TableFault.TheVariants as table
 use Rattle.table_file.specs.Opened.{Opened}
 use Rattle.table_file.specs.Search.{IsBrokenBlock, IsDamagedBlock, IsOtherBlock, IsSoundBlock, StandsThere, block_for, block_of_key, bytes_at, first_block, page_at, row_at}
+use Rattle.table_file.proofs.Lasts.{last_keys, rows_lasts, same_first, same_many, some_each}
 use Rattle.table_file.proofs.Lookups.{nothing_before, said_by_block, said_is_there}
 
--- ---- one block of those that are shown
+-- ---- one piece of those that are shown
 
-pub row_pages_are : (block : List Entry) → (index_row_of block).pages ≡ block_pages block
-unfolding index_row_of
-row_pages_are block = refl
-
-shown_block : (at : ℕ) (blocks : List (List Entry)) (image : Image) (n : ℕ) → Shows at (flat_map block_bytes blocks) image → n < length blocks
-    → window image (at + 4096 * row_pages (take n (map index_row_of blocks))) (4096 * (row_at (map index_row_of blocks) n).pages) ≡ block_bytes (get_or blocks n [])
-shown_block at [] image n shown lt = absurd (omega (arith, lt))
-shown_block at (b ∷ more) image zero shown lt =
-    let parts = shown_parts at (block_bytes b) (flat_map block_bytes more) image shown in
-    let long : 4096 * (index_row_of b).pages ≡ length (block_bytes b) = omega (arith, block_fills b, row_pages_are b) in
+shown_piece : (at : ℕ) (pieces : List Bytes) (image : Image) (n : ℕ) → AllByRecursion IsPiece pieces → Shows at (end_to_end pieces) image → n < length pieces
+    → window image (at + 4096 * row_pages (take n (map row_of_piece pieces))) (4096 * (row_at (map row_of_piece pieces) n).pages) ≡ get_or pieces n []
+shown_piece at [] image n each shown lt = absurd (omega (arith, lt))
+shown_piece at (p ∷ more) image zero each shown lt =
+    let parts = shown_parts at p (end_to_end more) image shown in
+    let long : 4096 * (row_of_piece p).pages ≡ length p = omega (arith, piece_fills p each.0.whole, row_pages_are p) in
     let place : at + 4096 * 0 ≡ at = omega arith in
-    ap₂ (λ (p k : ℕ). window image p k) place long ∙ parts.0
-shown_block at (b ∷ more) image (suc n) shown lt =
-    let parts = shown_parts at (block_bytes b) (flat_map block_bytes more) image shown in
-    let rows = take n (map index_row_of more) in
-    let place : at + 4096 * row_pages (index_row_of b ∷ rows) ≡ at + length (block_bytes b) + 4096 * row_pages rows =
-    omega (arith, block_fills b, row_pages_are b, sum_by-cons (λ (r : IndexRow). r.pages) (index_row_of b) rows) in
-    ap (λ (p : ℕ). window image p (4096 * (row_at (map index_row_of more) n).pages)) place
-    ∙ shown_block (at + length (block_bytes b)) more image n parts.1 (omega (arith, lt))
-
-row_sum : (block : List Entry) → (index_row_of block).sum ≡ fnv_of (block_bytes block)
-unfolding index_row_of
-row_sum block = refl
-
-least_of_index : (blocks : List (List Entry)) → (index_of_blocks blocks).least ≡ first_key (joined blocks)
-unfolding index_of_blocks
-least_of_index blocks = refl
+    ap₂ (λ (q k : ℕ). window image q k) place long ∙ parts.0
+shown_piece at (p ∷ more) image (suc n) each shown lt =
+    let parts = shown_parts at p (end_to_end more) image shown in
+    let rows = take n (map row_of_piece more) in
+    let place : at + 4096 * row_pages (row_of_piece p ∷ rows) ≡ at + length p + 4096 * row_pages rows =
+    omega (arith, piece_fills p each.0.whole, row_pages_are p, sum_by-cons (λ (r : IndexRow). r.pages) (row_of_piece p) rows) in
+    ap (λ (q : ℕ). window image q (4096 * (row_at (map row_of_piece more) n).pages)) place
+    ∙ shown_piece (at + length p) more image n each.1 parts.1 (omega (arith, lt))
 
 abbrev no_row : IndexRow
 no_row = record { pages = 0; sum = 0; last = [] }
@@ -86,43 +71,62 @@ beyond (b ∷ more) zero le = absurd (omega (arith, le))
 beyond (b ∷ more) (suc n) le = beyond more n (omega (arith, le))
 
 module _ (spelling : Spelling) (t : Opened) (blocks : List (List Entry)) (image : Image) (s : StandsThere spelling t blocks image) where
-  pub rows_are : t.index.rows ≡ map index_row_of blocks
-  rows_are = ap (λ (x : Index). x.rows) s.index_is ∙ rows_of_index blocks
+  pub rows_are : t.index.rows ≡ map row_of_piece s.at.pieces
+  rows_are = ap (λ (x : Index). x.rows) s.index_is ∙ rows_of_index s.at.pieces
+
+  pub lasts_are : last_keys t.index.rows ≡ last_keys (map index_row_of blocks)
+  lasts_are = ap last_keys rows_are ∙ rows_lasts s.at.pieces ∙ ap (λ (bs : List (List Entry)). last_keys (map index_row_of bs)) s.at.read
+
+  pub many_pieces : length s.at.pieces ≡ length blocks
+  many_pieces = sym (length-map s.at.pieces block_in) ∙ ap length s.at.read
+
+  pub many_rows : length t.index.rows ≡ length blocks
+  many_rows = same_many t.index.rows (map index_row_of blocks) lasts_are ∙ length-map blocks index_row_of
 
   pub least_is : t.index.least ≡ first_key (joined blocks)
-  least_is = ap (λ (x : Index). x.least) s.index_is ∙ least_of_index blocks
+  least_is = ap (λ (x : Index). x.least) s.index_is ∙ least_of_index s.at.pieces ∙ ap (λ (bs : List (List Entry)). first_key (joined bs)) s.at.read
+
+  pub each_some : AllByRecursion (λ b. 1 ≤ length b) blocks
+  each_some = subst (AllByRecursion (λ b. 1 ≤ length b)) s.at.read (some_each s.at.pieces s.at.each)
 
   module _ (n : ℕ) (there : n < length blocks) where
-    -- its bytes are the block's
-    pub bytes_of_block : bytes_at t n image ≡ block_bytes (get_or blocks n [])
+    inside : n < length s.at.pieces
+    inside = omega (arith, there, many_pieces)
+
+    -- its bytes are the piece
+    pub bytes_of_block : bytes_at t n image ≡ get_or s.at.pieces n []
     bytes_of_block =
-        let at : byte_of_page (t.row.first_page + row_pages (take n (map index_row_of blocks))) ≡ byte_of_page t.row.first_page + 4096 * row_pages (take n (map index_row_of blocks)) = omega arith in
+        let ps = s.at.pieces in
+        let at : byte_of_page (t.row.first_page + row_pages (take n (map row_of_piece ps))) ≡ byte_of_page t.row.first_page + 4096 * row_pages (take n (map row_of_piece ps)) = omega arith in
         ap (λ (rs : List IndexRow). window image (byte_of_page (t.row.first_page + row_pages (take n rs))) (4096 * (row_at rs n).pages)) rows_are
-        ∙ ap (λ (p : ℕ). window image p (4096 * (row_at (map index_row_of blocks) n).pages)) at
-        ∙ shown_block (byte_of_page t.row.first_page) blocks image n s.at.blocks_shown there
+        ∙ ap (λ (p : ℕ). window image p (4096 * (row_at (map row_of_piece ps) n).pages)) at
+        ∙ shown_piece (byte_of_page t.row.first_page) ps image n s.at.each s.at.blocks_shown inside
+
+    pub read_there : block_in (get_or s.at.pieces n []) ≡ get_or blocks n []
+    read_there = sym (get_or-map block_in s.at.pieces n [] [] inside) ∙ ap (λ (bs : List (List Entry)). get_or bs n []) s.at.read
 
     pub block_is_sound : IsSoundBlock t n image
     block_is_sound =
-        let sum = ap (λ (rs : List IndexRow). (row_at rs n).sum) rows_are ∙ ap (λ (r : IndexRow). r.sum) (get_or-map index_row_of blocks n [] no_row there) ∙ row_sum (get_or blocks n []) in
+        let sum = ap (λ (rs : List IndexRow). (row_at rs n).sum) rows_are ∙ ap (λ (r : IndexRow). r.sum) (get_or-map row_of_piece s.at.pieces n [] no_row inside) ∙ row_sum (get_or s.at.pieces n []) in
         record {
           sum = sum ∙ ap fnv_of (sym bytes_of_block);
-          rules = ap block_fault bytes_of_block ∙ (block_again (get_or blocks n []) (all_at IsBlock blocks n [] s.at.each there)).0;
+          rules = ap block_fault bytes_of_block ∙ (all_at IsPiece s.at.pieces n [] s.at.each inside).whole;
         }
 
 module _ (spelling : Spelling) (t : Opened) (blocks : List (List Entry)) (image : Image) (s : StandsThere spelling t blocks image) (key : Bytes) where
-  rows : t.index.rows ≡ map index_row_of blocks
-  rows = rows_are spelling t blocks image s
+  lasts : last_keys t.index.rows ≡ last_keys (map index_row_of blocks)
+  lasts = lasts_are spelling t blocks image s
 
   abbrev place : ℕ
   place = position_or_len (λ (row : IndexRow). is_from key row.last) (map index_row_of blocks)
 
   said : lookup (joined blocks) key ≡ lookup (get_or blocks place []) key
-  said = said_by_block key _ blocks (weaker IsBlock (λ b. 1 ≤ length b) (λ b is. is.some) blocks s.at.each) s.at.table.rising
+  said = said_by_block key _ blocks (each_some spelling t blocks image s) s.at.table.rising
 
   module _ (n : ℕ) (is : block_for t key ≡ Some n) where
     first : first_block (map index_row_of blocks) key ≡ Some n
     first =
-        ap (λ (rs : List IndexRow). first_block rs key) (sym rows)
+        sym (same_first key t.index.rows (map index_row_of blocks) lasts)
         ∙ cond_some (is_from t.index.least key) (first_block t.index.rows key) n (cond_some (point t.filter.hash_bits t.filter.real_bits t.filter.leaves key) (block_of_key t.index key) n is)
 
     found : (n < length (map index_row_of blocks)) × (place ≡ n)
@@ -134,7 +138,7 @@ module _ (spelling : Spelling) (t : Opened) (blocks : List (List Entry)) (image 
     pub there : n < length blocks
     there = omega (arith, found.0, length-map blocks index_row_of)
 
-    pub bytes_are : bytes_at t n image ≡ block_bytes (get_or blocks n [])
+    pub bytes_are : bytes_at t n image ≡ get_or s.at.pieces n []
     bytes_are = bytes_of_block spelling t blocks image s n there
 
     sound : IsSoundBlock t n image
@@ -163,8 +167,7 @@ module _ (spelling : Spelling) (t : Opened) (blocks : List (List Entry)) (image 
 
     pub answer : (bytes : Bytes) → bytes ≡ bytes_at t n image → lookup (block_in bytes) key ≡ lookup (joined blocks) key
     answer bytes are =
-        let block = block_again (get_or blocks n []) (all_at IsBlock blocks n [] s.at.each there) in
-        ap (λ (b : Bytes). lookup (block_in b) key) (are ∙ bytes_are) ∙ ap (λ (b : List Entry). lookup b key) block.1
+        ap (λ (b : Bytes). lookup (block_in b) key) (are ∙ bytes_are) ∙ ap (λ (b : List Entry). lookup b key) (read_there spelling t blocks image s n there)
         ∙ ap (λ (k : ℕ). lookup (get_or blocks k []) key) (sym found.1) ∙ sym said
 
   admitted : Contains (keys_of (joined blocks)) key → point t.filter.hash_bits t.filter.real_bits t.filter.leaves key ≡ true
@@ -191,7 +194,7 @@ module _ (spelling : Spelling) (t : Opened) (blocks : List (List Entry)) (image 
             let denied : block_of_key t.index key ≡ None =
             sym (ap (λ (b : Bool). cond b (block_of_key t.index key) None) (admitted (said_is_there (joined blocks) key value is))) ∙ none in
             sym is ∙ (elim (is_from t.index.least key) as (λ b. is_from t.index.least key ≡ b → cond b (first_block t.index.rows key) None ≡ None → lookup (joined blocks) key ≡ None) [
-              | true ↦ λ _ past. none_past (ap (λ (rs : List IndexRow). first_block rs key) (sym rows) ∙ past)
+              | true ↦ λ _ past. none_past (sym (same_first key t.index.rows (map index_row_of blocks) lasts) ∙ past)
               | false ↦ λ before _. nothing_before key (joined blocks) (ap (λ (k : Bytes). is_from k key) (sym (least_is spelling t blocks image s)) ∙ before) s.at.table.rising
             ] refl denied)
       ] refl

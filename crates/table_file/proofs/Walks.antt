@@ -9,7 +9,7 @@ use Rattle.entry_model.specs.Entries.{Entry}
 use Rattle.block_model.specs.BlockReading.{block_in}
 use Rattle.block_model.specs.Index.{IndexRow, row_pages}
 use Rattle.block_model.specs.Laws.{joined}
-use Rattle.block_format.specs.Spans.{kept_from}
+use Rattle.block_format.specs.Walking.{kept_from}
 use Rattle.table_model.specs.Damage.{block_part}
 use Rattle.table_file.specs.Opened.{Opened}
 use Rattle.table_file.specs.Search.{bytes_at, row_at}

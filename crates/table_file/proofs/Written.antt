@@ -10,7 +10,8 @@ use Rattle.filter_api.specs.declared.settings.Settings.{Settings}
 use Rattle.filter_model.specs.Leaves.{Filter, Leaf}
 use Rattle.map_model.specs.SortedMap.{Bytes}
 use Rattle.entry_model.specs.Entries.{Entry, keys_of}
-use Rattle.block_model.specs.Block.{data_bytes, padding}
+use Rattle.block_model.specs.Block.{data_bytes}
+use Rattle.block_model.specs.Pages.{padding}
 use Rattle.block_model.specs.Index.{Index, index_bytes, index_of}
 use Rattle.block_model.specs.Pages.{data_pages, index_length, pages_for}
 use Rattle.block_model.specs.Places.{byte_of_page, filter_page, index_page}

@@ -6,6 +6,7 @@ use Rattle.map_model.specs.SortedMap.{Bytes}
 use Rattle.entry_model.specs.Entries.{Entry, keys_of}
 use Rattle.block_model.specs.Block.{AreEntries, IsBlock, block_bytes}
 use Rattle.block_model.specs.BlockReading.{block_in}
+use Rattle.block_model.specs.Formats.{Prefixed}
 use Rattle.block_model.specs.Index.{IndexRow}
 use Rattle.block_model.specs.Laws.{joined}
 use Rattle.block_model.specs.Order.{Follow, is_any}
@@ -38,7 +39,7 @@ pub record Holds (closed : List (List Entry)) (bytes : Bytes) (rows : List Index
   pub rows_are : map unsummed_row_of closed ≡ rows
   pub keys_are : keys_of (entries_with closed «open») ≡ keys
   pub cut : blocks_of (entries_with closed «open») ≡ with_open closed «open»
-  pub each : AllByRecursion IsBlock closed
+  pub each : AllByRecursion (IsBlock Prefixed) closed
   pub sound : AreEntries (entries_with closed «open»)
   pub rising : Follow is_any (keys_of (entries_with closed «open»))
   pub begun : «open» ≡ [] → closed ≡ []

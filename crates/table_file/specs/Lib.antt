@@ -13,7 +13,7 @@ pub use Rattle.block_model.specs.Places
 pub use Rattle.block_model.specs.Laws as BlockLaws
 pub use Rattle.block_model.specs.Order
 pub use Rattle.block_model.specs.Pages
-pub use Rattle.block_format.specs.Spans
+pub use Rattle.block_format.specs.Walking
 pub use Rattle.table_model.specs.Damage
 pub use Rattle.table_model.specs.Images
 pub use Rattle.table_model.specs.Tables

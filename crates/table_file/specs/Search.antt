@@ -10,13 +10,14 @@ use Rattle.filter_api.specs.Spellings.{Spelling}
 use Rattle.filter_api.specs.declared.settings.Settings.{Settings}
 use Rattle.filter_model.specs.Answers.{point}
 use Rattle.filter_model.specs.Leaves.{leaves_of}
-use Rattle.key_base.specs.Limits.{max_old_block_pages, page_bytes}
+use Rattle.key_base.specs.Limits.{max_block_pages, page_bytes}
 use Rattle.map_model.specs.SortedMap.{Bytes}
 use Rattle.entry_model.specs.Entries.{Entry, keys_of}
 use Rattle.block_model.specs.Index.{Index, IndexRow, row_pages}
 use Rattle.block_model.specs.Laws.{joined}
 use Rattle.block_model.specs.Order.{is_from}
-use Rattle.table_model.specs.Images.{IsTableAt, index_of_blocks}
+use Rattle.table_model.specs.Images.{IsTableAt}
+use Rattle.table_model.specs.Pieces.{index_of_pieces}
 use Rattle.block_model.specs.BlockReading.{block_fault}
 use Rattle.block_model.specs.Places.{byte_of_page}
 use Rattle.table_model.specs.Damage.{block_part}
@@ -40,7 +41,7 @@ block_for t key = if point t.filter.hash_bits t.filter.real_bits t.filter.leaves
 -- the table of these blocks stands on the device, and this is it, opened
 pub record StandsThere (spelling : Spelling) (t : Opened) (blocks : List (List Entry)) (image : Image) : Type 0 where
   pub at : IsTableAt spelling t.row blocks image
-  pub index_is : t.index ≡ index_of_blocks blocks
+  pub index_is : t.index ≡ index_of_pieces at.pieces
   pub hash_is : t.filter.hash_bits ≡ t.row.hash_bits
   pub real_is : t.filter.real_bits ≡ t.row.real_bits
   pub leaves_are : t.filter.leaves ≡ leaves_of t.row.hash_bits t.row.real_bits (keys_of (joined blocks))
@@ -65,7 +66,7 @@ pub record IsSoundBlock (t : Opened) (n : ℕ) (image : Image) : Type 0 where
 
 -- the bytes of the largest block
 abbrev pub largest_block : ℕ
-largest_block = page_bytes * max_old_block_pages
+largest_block = page_bytes * max_block_pages
 
 -- how many blocks a get reads
 abbrev pub blocks_of_get : Option ℕ → ℕ

@@ -1,5 +1,5 @@
 -- A walk over the entries of a table, block by block.
-use Rattle.std.specs.Prelude.{◌≡◌, ◌⊎◌, ◌<◌, ◌≤◌, ℕ, ◌+◌, Bool, false, ◌&&◌, ◌==◌, nat_lt, List, [], ◌∷◌, ◌++◌, length, drop, slice_index_or, Option, Some, None, MatchOption}
+use Rattle.std.specs.Prelude.{◌≡◌, ◌⊎◌, max, ◌<◌, ◌≤◌, ℕ, ◌+◌, Bool, false, ◌&&◌, ◌==◌, nat_lt, List, [], ◌∷◌, ◌++◌, length, drop, slice_index_or, Option, Some, None, MatchOption}
 use Rattle.std.specs.List.{position_or_len}
 use Rattle.disk_trait.specs.Image.{Image}
 use Rattle.map_model.specs.SortedMap.{Bytes}
@@ -8,7 +8,7 @@ use Rattle.block_model.specs.BlockReading.{block_in}
 use Rattle.block_model.specs.Index.{IndexRow}
 use Rattle.block_model.specs.Laws.{joined}
 use Rattle.block_model.specs.Order.{is_from}
-use Rattle.block_format.specs.Spans.{kept_from}
+use Rattle.block_format.specs.Walking.{kept_from}
 use Rattle.table_model.specs.Damage.{block_part}
 use Rattle.table_file.specs.Opened.{Opened}
 
@@ -21,9 +21,15 @@ blocks_there page (row ∷ later) image = block_in (block_part page row image) �
 abbrev pub blocks_on : Opened → Image → List (List Entry)
 blocks_on t image = blocks_there t.row.first_page t.index.rows image
 
+-- the most pages that one of the blocks has with these rows
+abbrev pub most_block_pages : List IndexRow → ℕ
+most_block_pages [] = 0
+most_block_pages (row ∷ later) = max row.pages (most_block_pages later)
+
 -- Where a walk stands: its bound until a block was read, the block that is read next, the entry at hand, and those of the
--- last block that are still to come.
+-- last block that are still to come; and for how many pages of a block it has room.
 pub record CursorWalk : Type 0 where
+  pub room : ℕ
   pub bound : Option Bytes
   pub block : ℕ
   pub now : Option Entry
@@ -38,9 +44,10 @@ joined_from bound (block ∷ more) = kept_from bound block ++ joined more
 abbrev pub to_come : CursorWalk → List (List Entry) → List Entry
 to_come walk blocks = walk.later ++ joined_from walk.bound (drop walk.block blocks)
 
--- a walk from a bound on begins at the first block whose last key is not below it
+-- a walk from a bound on begins at the first block whose last key is not below it, and has room for each block of the table
 abbrev pub walk_from : Opened → Bytes → CursorWalk
 walk_from t low = record {
+  room = most_block_pages t.index.rows;
   bound = Some low;
   block = position_or_len (λ (row : IndexRow). is_from low row.last) t.index.rows;
   now = None;
@@ -78,5 +85,6 @@ others_of [] = []
 others_of (entry ∷ later) = later
 
 pub record BlockInHand : Type 0 where
+  pub room : ℕ
   pub now : Option Entry
   pub later : List Entry

@@ -10,7 +10,8 @@ use Rattle.filter_api.specs.Spellings.{Spelling}
 use Rattle.filter_api.specs.declared.settings.Settings.{Settings}
 use Rattle.filter_model.specs.Leaves.{Leaf}
 use Rattle.entry_model.specs.Entries.{Entry, keys_of}
-use Rattle.block_model.specs.Block.{data_bytes, padding}
+use Rattle.block_model.specs.Block.{data_bytes}
+use Rattle.block_model.specs.Pages.{padding}
 use Rattle.block_model.specs.Index.{index_bytes, index_of}
 use Rattle.block_model.specs.Laws.{joined}
 use Rattle.block_model.specs.Places.{byte_of_page, filter_page, index_page}

@@ -5,6 +5,7 @@ ghost use Rattle.entry_model.specs.Entries.{IsEntry, entry_of, keys_of};
 ghost use Rattle.map_model.specs.SortedMap.{Bytes};
 ghost use Rattle.entry_model.specs.Entries as model;
 ghost use Rattle.block_model.specs.Block.{IsBlock, block_bytes};
+ghost use Rattle.block_model.specs.Formats.{Prefixed};
 ghost use Rattle.block_model.specs.Index.{row_pages};
 ghost use Rattle.block_model.specs.Order.{Follow, is_any};
 ghost use Rattle.block_model.specs.Pages.{data_pages, last_key, page_bytes};
@@ -90,7 +91,7 @@ impl TableBuilder {
     }
 
     /// Adds an entry, `None` for a tombstone's value. The key has 1 to 1,024 bytes and is
-    /// [above all others](TableBuilder::is_above_all), the value at most 65,536 bytes. Without memory nothing is added, and
+    /// [above all others](TableBuilder::is_above_all), the value at most 1,048,576 bytes. Without memory nothing is added, and
     /// none behind 2^32 - 1 others, since a row counts them in four bytes.
     ///
     /// It copies the key and the value.
@@ -241,7 +242,7 @@ fn close_block(
     blocks: &mut Vec<u8>,
     rows: &mut Vec<BlockRow>,
 ) -> Result<(), AllocError>
-    requires sound { IsBlock «open».old }
+    requires sound { IsBlock Prefixed «open».old }
     requires last { last.now ≡ last_key «open».old }
     requires whole { length blocks.old.items ≡ page_bytes * row_pages (rows_seen rows.old.items) }
     requires stand { StandFrom 0 rows.old.items }

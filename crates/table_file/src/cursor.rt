@@ -6,10 +6,10 @@ ghost use Rattle.disk_trait.specs.World.{ReadMoves};
 ghost use Rattle.entry_model.specs.Entries.{IsEntry, entry_of};
 ghost use Rattle.block_model.specs.BlockReading.{block_in};
 ghost use Rattle.block_model.specs.Places.{byte_of_page};
-ghost use Rattle.block_format.specs.Spans.{kept_from};
+ghost use Rattle.block_format.specs.Walking.{kept_from};
 ghost use Rattle.table_file.specs.Faults.{HasReadCause, IsNoWant};
 ghost use Rattle.table_file.specs.Search.{IsGetFault, IsSoundBlock, bytes_at, page_at};
-ghost use Rattle.table_file.specs.Walks.{BeginsWell, HandsOut, IsSettled, WalkGoesOn, blocks_on, first_of, is_due, others_of, to_come};
+ghost use Rattle.table_file.specs.Walks.{BeginsWell, HandsOut, IsSettled, WalkGoesOn, blocks_on, first_of, is_due, most_block_pages, others_of, to_come};
 
 use crate::fault::TableFault;
 use crate::held_block::HeldBlock;
@@ -18,7 +18,7 @@ use disk_trait::Disk;
 use filter_api::RangeFilter;
 use std::marker::Model;
 
-/// A walk over the entries of a table from a bound on, seen as where it stands. It keeps a buffer for one block, and borrows
+/// A walk over the entries of a table from a bound on, seen as where it stands. It keeps a buffer for one block and one for a key, and borrows
 /// no table: each call is handed the same one.
 #[derive(Drop)]
 pub struct TableCursor {
@@ -36,7 +36,7 @@ impl Model for TableCursor {
 
     ghost Value = { CursorWalk };
 
-    ghost view = { λ c. record { bound = if c.begun then None else Some c.low.items; block = c.block; now = c.held.now; later = c.held.later } };
+    ghost view = { λ c. record { room = c.held.room; bound = if c.begun then None else Some c.low.items; block = c.block; now = c.held.now; later = c.held.later } };
 }
 
 impl TableCursor {
@@ -44,8 +44,8 @@ impl TableCursor {
 
     /// A walk from a bound on that begins at a block.
     pub(crate) fn new(low: Vec<u8>, block: u32, held: HeldBlock) -> TableCursor
-        requires { held ≡ record { now = None; later = [] } }
-        ensures { result ≡ record { bound = Some low.items; block = block; now = None; later = [] } }
+        requires { (held.now ≡ None) × (held.later ≡ []) }
+        ensures { result ≡ record { room = held.room; bound = Some low.items; block = block; now = None; later = [] } }
     {
         TableCursor {
             low,
@@ -75,6 +75,8 @@ impl TableCursor {
         disk: &mut D,
         table: &Table<F>,
     ) -> Result<bool, TableFault>
+        requires room { most_block_pages table.now.index.rows ≤ self.old.room }
+        ensures room { self.new.room ≡ self.old.room }
         ensures said { IfOk result (λ some. some ≡ is_some self.new.now) }
         ensures hands_out { IsTrue D.tells → OnOk result (HandsOut self.old self.new (blocks_on table.now (D.world disk.old).seen.held)) }
         ensures stays { IsTrue D.tells → OnErr result (to_come self.new (blocks_on table.now (D.world disk.old).seen.held) ≡ to_come self.old (blocks_on table.now (D.world disk.old).seen.held)) }
@@ -111,7 +113,8 @@ impl TableCursor {
         disk: &mut D,
         table: &Table<F>,
     ) -> Result<Option<(&[u8], Option<&[u8]>)>, TableFault>
-        ensures* after { sem 𝓛 (cursor_ends self.entry (λ walk. (IsTrue D.tells → OnOk result (HandsOut self.old walk (blocks_on table.now (D.world disk.old).seen.held))) × IfOk result (λ found. option_map (λ f. entry_of f.0.now (option_map (λ v. v.now) f.1)) found ≡ walk.now)
+        requires { most_block_pages table.now.index.rows ≤ self.old.room }
+        ensures* after { sem 𝓛 (cursor_ends self.entry (λ walk. (walk.room ≡ self.old.room) × (IsTrue D.tells → OnOk result (HandsOut self.old walk (blocks_on table.now (D.world disk.old).seen.held))) × IfOk result (λ found. option_map (λ f. entry_of f.0.now (option_map (λ v. v.now) f.1)) found ≡ walk.now)
             × (IsTrue D.tells → OnErr result (to_come walk (blocks_on table.now (D.world disk.old).seen.held) ≡ to_come self.old (blocks_on table.now (D.world disk.old).seen.held))) × OnErr result (walk.now ≡ None)
             × WalkGoesOn self.old walk × (self.old.block ≤ walk.block)
             × (IsTrue D.tells → BeginsWell self.old (blocks_on table.now (D.world disk.old).seen.held) → OnOk result (walk.block ≡ self.old.block + (if is_due self.old (length table.now.index.rows) then 1 else 0))))) }
@@ -129,7 +132,7 @@ impl TableCursor {
     }
 
     /// The key and the value of the entry at hand, `None` for a tombstone's value, or `None` where none is at hand. They
-    /// are parts of the cursor's buffer.
+    /// are parts of the cursor's buffers.
     pub fn entry(&self) -> Option<(&[u8], Option<&[u8]>)>
         ensures now { option_map (λ found. entry_of found.0.now (option_map (λ v. v.now) found.1)) result ≡ self.now.now }
         ensures sound { IfSome result (λ found. IsEntry (entry_of found.0.now (option_map (λ v. v.now) found.1))) }
@@ -146,6 +149,8 @@ impl TableCursor {
         disk: &mut D,
         table: &Table<F>,
     ) -> Result<(), TableFault>
+        requires room { most_block_pages table.now.index.rows ≤ self.old.room }
+        ensures room { self.new.room ≡ self.old.room }
         ensures same { IsTrue D.tells → to_come self.new (blocks_on table.now (D.world disk.old).seen.held) ≡ to_come self.old (blocks_on table.now (D.world disk.old).seen.held) }
         ensures settled { OnOk result (IsSettled self.new (length table.now.index.rows)) }
         ensures done { IsSettled self.old (length table.now.index.rows) → OnOk result (is_due self.new (length table.now.index.rows) ≡ false) }
@@ -172,6 +177,7 @@ impl TableCursor {
 
     // Reads the next block. At `Err` the walk stands where it stood.
     #[inline(never)]
+    #[tactic(auto, using(crate::proofs::Rooms::row_within))]
     fn load<F: RangeFilter, D: Disk>(
         &mut self,
         disk: &mut D,
@@ -179,6 +185,8 @@ impl TableCursor {
     ) -> Result<(), TableFault>
         requires due { is_due self.old (length table.now.index.rows) ≡ true }
         requires few { self.old.block + 1 < 2 ^ 32 }
+        requires room { most_block_pages table.now.index.rows ≤ self.old.room }
+        ensures room { self.new.room ≡ self.old.room }
         ensures none { self.new.now ≡ None }
         ensures bound { OnErr result (self.new.bound ≡ self.old.bound) }
         ensures same_block { OnErr result (self.new.block ≡ self.old.block) }

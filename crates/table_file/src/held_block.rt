@@ -5,62 +5,76 @@ ghost use Rattle.disk_trait.specs.World.{ReadMoves};
 ghost use Rattle.entry_model.specs.Entries.{IsEntry, entry_of};
 ghost use Rattle.block_model.specs.BlockReading.{block_in};
 ghost use Rattle.block_model.specs.Places.{byte_of_page};
-ghost use Rattle.block_format.specs.Spans.{kept_from};
+ghost use Rattle.block_format.specs.Walking.{kept_from};
+ghost use Rattle.key_base.specs.Limits.{max_block_pages, page_bytes};
 ghost use Rattle.table_file.specs.Faults.{HasReadCause, IsNoWant};
-ghost use Rattle.table_file.specs.Search.{IsGetFault, IsSoundBlock, bytes_at, page_at};
+ghost use Rattle.table_file.specs.Search.{IsGetFault, IsSoundBlock, bytes_at, page_at, row_at};
 ghost use Rattle.table_file.specs.Walks.{first_of, others_of};
 
 use crate::fault::TableFault;
-use crate::table::{LARGEST_BLOCK_BYTES, Table};
-use block_format::EntrySpan;
+use crate::table::Table;
+use block_format::{BlockFormat, EntryWalk, ValuePlace, value_of};
 use disk_trait::Disk;
 use filter_api::RangeFilter;
+use key_base::{MAX_KEY_BYTES, PAGE_BYTES};
 use std::alloc::{AllocError, Global};
 use std::marker::Model;
 
 // No entry.
-const NO_ENTRY: EntrySpan = EntrySpan {
+const NO_WALK: EntryWalk = EntryWalk {
+    format: BlockFormat::Prefixed,
     at: 0,
     end: 0,
     left: 0,
+    key_length: 0,
 };
 
-/// The bytes of a block, seen as the entry at hand and those that are still to come.
+/// The bytes of a block, seen as the entry at hand and those that are still to come, and for how many pages there is room.
 #[derive(Drop)]
 pub(crate) struct HeldBlock {
-    // room for the largest block; so many bytes as the largest one had that was read
+    // room for a block of so many pages; so many bytes as the largest one had that was read
     bytes: Vec<u8>,
-    // the entry at hand is the first of these
-    here: EntrySpan,
-    rest: EntrySpan,
+    pages: u32,
+    // the key at hand is at the front of it
+    key: Vec<u8>,
+    walk: EntryWalk,
+    place: Option<Option<ValuePlace>>,
 }
 
 impl Model for HeldBlock {
-    ghost use Rattle.std.specs.Prelude.{◌≤◌, vec_capacity};
+    ghost use Rattle.std.specs.Prelude.{◌≡◌, ◌≤◌, ◌*◌, IfSome, length, vec_capacity};
     ghost use Rattle.std.specs.List.{AllByRecursion};
+    ghost use Rattle.key_base.specs.Limits.{max_key_bytes, page_bytes};
     ghost use Rattle.entry_model.specs.Entries.{IsEntry};
-    ghost use Rattle.block_format.specs.Spans.{StandsIn, spanned};
-    ghost use Rattle.table_file.specs.Search.{largest_block};
-    ghost use Rattle.table_file.specs.Walks.{BlockInHand, first_of};
+    ghost use Rattle.block_format.specs.Walking.{LiesIn, StandsAfter, at_hand, key_held, walked};
+    ghost use Rattle.table_file.specs.Walks.{BlockInHand};
 
     ghost Value = { BlockInHand };
 
-    ghost view = { λ b. record { now = first_of (spanned b.here b.bytes.items); later = spanned b.rest b.bytes.items } };
+    ghost view = { λ b. record { room = b.pages; now = at_hand b.place (key_held b.walk b.key.items) b.bytes.items; later = walked b.walk b.key.items b.bytes.items } };
 
-    ghost invariant = { λ b. (largest_block ≤ vec_capacity b.bytes)
-        × StandsIn b.here b.bytes.items × AllByRecursion IsEntry (spanned b.here b.bytes.items)
-        × StandsIn b.rest b.bytes.items × AllByRecursion IsEntry (spanned b.rest b.bytes.items) };
+    ghost invariant = { λ b. (page_bytes * b.pages ≤ vec_capacity b.bytes)
+        × (length b.key.items ≡ max_key_bytes)
+        × StandsAfter b.walk b.key.items b.bytes.items
+        × IfSome b.place (λ v. LiesIn v b.bytes.items)
+        × IfSome (at_hand b.place (key_held b.walk b.key.items) b.bytes.items) IsEntry
+        × AllByRecursion IsEntry (walked b.walk b.key.items b.bytes.items) };
 }
 
 impl HeldBlock {
-    /// No entry, and room for the largest block.
-    pub(crate) fn new(alloc: Global) -> Result<HeldBlock, AllocError>
-        ensures { IfOk result (λ b. b ≡ record { now = None; later = [] }) }
+    /// No entry, and room for a block of so many pages and for a key.
+    pub(crate) fn new(alloc: Global, pages: u32) -> Result<HeldBlock, AllocError>
+        requires { pages ≤ max_block_pages }
+        ensures { IfOk result (λ b. b ≡ record { room = pages; now = None; later = [] }) }
     {
+        let bytes = Vec::with_capacity(alloc, PAGE_BYTES * pages as usize)?;
+        let key = vec![in alloc; 0; MAX_KEY_BYTES]?;
         Ok(HeldBlock {
-            bytes: Vec::with_capacity(alloc, LARGEST_BLOCK_BYTES)?,
-            here: NO_ENTRY,
-            rest: NO_ENTRY,
+            bytes,
+            pages,
+            key,
+            walk: NO_WALK,
+            place: None,
         })
     }
 
@@ -68,7 +82,7 @@ impl HeldBlock {
     pub(crate) fn is_empty(&self) -> bool
         ensures { result ≡ (length self.now.later == 0) }
     {
-        self.rest.left == 0
+        self.walk.left == 0
     }
 
     /// Reads the block number `n` of a table and judges it. Its entries from a bound on are then still to come, and none
@@ -81,6 +95,8 @@ impl HeldBlock {
         low: Option<&[u8]>,
     ) -> Result<(), TableFault>
         requires there { n < length table.now.index.rows }
+        requires room { (row_at table.now.index.rows n).pages ≤ self.old.room }
+        ensures room { self.new.room ≡ self.old.room }
         ensures none { self.new.now ≡ None }
         ensures emptied { OnErr result (self.new.later ≡ []) }
         ensures entries { IsTrue D.tells → OnOk result (self.new.later ≡ kept_from (option_map (λ k. k.now) low.entry) (block_in (bytes_at table.now n (D.world disk.old).seen.held))) }
@@ -92,23 +108,25 @@ impl HeldBlock {
         ensures moves { ReadMoves 1 (D.world disk.old) (D.world disk.new) }
         ensures counted { IsTrue D.tells → OnOk result ((D.world disk.new).seen.reads ≡ (D.world disk.old).seen.reads + 1) }
     {
-        self.here = NO_ENTRY;
-        self.rest = NO_ENTRY;
+        self.walk = NO_WALK;
+        self.place = None;
         lengthen(&mut self.bytes, table.block_bytes(n));
         let size = table.fetch(disk, n, &mut self.bytes)?;
-        let span = table.span_read(n, &self.bytes[..size], low)?;
-        self.rest = span;
+        let walk = table.walk_read(n, &self.bytes[..size], low, &mut self.key)?;
+        self.walk = walk;
         Ok(())
     }
 
     /// Takes the first entry that is still to come at hand, and answers whether there was one.
     pub(crate) fn step(&mut self) -> bool
+        ensures room { self.new.room ≡ self.old.room }
         ensures said { result ≡ is_some self.new.now }
         ensures now { self.new.now ≡ first_of self.old.later }
         ensures later { self.new.later ≡ others_of self.old.later }
     {
-        self.here = self.rest;
-        self.rest.next(&self.bytes).is_some()
+        let place = self.walk.advance(&self.bytes, &mut self.key);
+        self.place = place;
+        place.is_some()
     }
 
     /// The entry at hand.
@@ -116,8 +134,10 @@ impl HeldBlock {
         ensures now { option_map (λ found. entry_of found.0.now (option_map (λ v. v.now) found.1)) result ≡ self.now.now }
         ensures sound { IfSome result (λ found. IsEntry (entry_of found.0.now (option_map (λ v. v.now) found.1))) }
     {
-        let mut here = self.here;
-        here.next(&self.bytes)
+        match self.place {
+            Some(place) => Some((self.walk.key(&self.key), value_of(place, &self.bytes))),
+            None => None,
+        }
     }
 }
 

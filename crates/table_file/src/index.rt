@@ -1,6 +1,7 @@
 //! The index of a table in memory.
 ghost use Rattle.std.specs.Prelude.{◌≡◌, ◌+◌, ◌-◌, ◌≤◌, ◌<◌, ◌^◌, ◌++◌, length, take, flat_map, Some, None, IfOk, IfErr, OnOk};
-ghost use Rattle.key_base.specs.Limits.{max_old_block_pages};
+ghost use Rattle.key_base.specs.Limits.{max_block_pages};
+ghost use Rattle.table_file.specs.Walks.{most_block_pages};
 ghost use Rattle.block_model.specs.Index.{IsIndex, index_bytes, index_row_bytes, row_pages};
 ghost use Rattle.block_model.specs.IndexReading.{index_fault, index_in, rows_fault, rows_in};
 ghost use Rattle.block_model.specs.Order.{Follow, is_any, is_from};
@@ -34,18 +35,22 @@ const OTHER_PAGES: u8 = 8;
 pub(crate) struct BlockIndex {
     least: Vec<u8>,
     rows: Vec<BlockRow>,
+    // the most pages of one of them
+    most: u32,
 }
 
 impl Model for BlockIndex {
     ghost use Rattle.std.specs.Prelude.{◌≡◌};
     ghost use Rattle.block_model.specs.Index.{Index, IsIndex, row_pages};
     ghost use Rattle.table_file.specs.BlockRows.{StandFrom, rows_seen};
+    ghost use Rattle.table_file.specs.Walks.{most_block_pages};
 
     ghost Value = { Index };
 
     ghost view = { λ x. record { least = x.least.items; rows = rows_seen x.rows.items } };
 
-    ghost invariant = { λ x. IsIndex (row_pages (rows_seen x.rows.items)) (record { least = x.least.items; rows = rows_seen x.rows.items }) × StandFrom 0 x.rows.items };
+    ghost invariant = { λ x. IsIndex (row_pages (rows_seen x.rows.items)) (record { least = x.least.items; rows = rows_seen x.rows.items }) × StandFrom 0 x.rows.items
+        × (x.most ≡ most_block_pages (rows_seen x.rows.items)) };
 }
 
 impl BlockIndex {
@@ -76,7 +81,8 @@ impl BlockIndex {
             });
         }
         let least = Vec::from_slice(alloc, head.least)?;
-        Ok(BlockIndex { least, rows })
+        let most = most_pages(rows.as_slice());
+        Ok(BlockIndex { least, rows, most })
     }
 
     /// The index with this least key and these rows, whose blocks stand one after the other.
@@ -85,7 +91,8 @@ impl BlockIndex {
         requires stand { StandFrom 0 rows.items }
         ensures { result ≡ record { least = least.items; rows = rows_seen rows.items } }
     {
-        BlockIndex { least, rows }
+        let most = most_pages(rows.as_slice());
+        BlockIndex { least, rows, most }
     }
 
     /// The block that may have a key: the first whose last key is not below it, and none below the least key.
@@ -127,10 +134,18 @@ impl BlockIndex {
         ensures row { row_seen result.now ≡ row_at self.now.rows n }
         ensures first { result.now.first ≡ row_pages (take n self.now.rows) }
         ensures within { result.now.first + result.now.pages ≤ row_pages self.now.rows }
-        ensures few { result.now.pages ≤ max_old_block_pages }
+        ensures few { result.now.pages ≤ max_block_pages }
     {
         let rows = self.rows.as_slice();
         &rows[n]
+    }
+
+    /// The most pages of one of the blocks.
+    pub(crate) fn most_pages(&self) -> u32
+        ensures is { result ≡ most_block_pages self.now.rows }
+        ensures few { result ≤ max_block_pages }
+    {
+        self.most
     }
 
     /// How many blocks there are.
@@ -159,6 +174,17 @@ impl BlockIndex {
         push_rows(self.rows.as_slice(), &mut out)?;
         Ok(out)
     }
+}
+
+// The most pages that one of these blocks has.
+fn most_pages(rows: &[BlockRow]) -> u32
+    ensures { result ≡ most_block_pages (rows_seen rows.now) }
+{
+    let mut most = 0;
+    for row in rows {
+        most = most.max(row.pages);
+    }
+    most
 }
 
 // How many rows have last keys below this one.

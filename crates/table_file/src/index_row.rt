@@ -1,13 +1,13 @@
 //! One row of an index, in the bytes that begin with it, and the head before the rows.
 ghost use Rattle.std.specs.Prelude.{◌≡◌, ◌≤◌, ◌<◌, ◌+◌, ◌^◌, length, None, IfOk, IfErr};
-ghost use Rattle.key_base.specs.Limits.{max_old_block_pages};
+ghost use Rattle.key_base.specs.Limits.{max_block_pages};
 ghost use Rattle.block_model.specs.IndexReading.{head_width_in, index_head_fault, last_in, least_in, pages_in, row_fault, row_width_in, rows_count_in, sum_in};
 ghost use Rattle.table_file.specs.Faults.{IsShape, IsPlaceWithin};
 ghost use Rattle.table_file.specs.BeforeLast.{passes};
 
 use crate::before::BeforeLast;
 use byte_fields::{PartFault, get_u16, get_u32, get_u64};
-use key_base::{MAX_KEY_BYTES, MAX_OLD_BLOCK_PAGES};
+use key_base::{MAX_BLOCK_PAGES, MAX_KEY_BYTES};
 
 /// `SRFI`.
 pub(crate) const MAGIC: u32 = 0x49465253;
@@ -104,7 +104,7 @@ pub(crate) fn read_row<'a>(
     ensures last { IfOk result (λ r. r.last.now ≡ last_in bytes.now) }
     ensures width { IfOk result (λ r. r.width ≡ row_width_in bytes.now) }
     ensures within { IfOk result (λ r. r.width ≤ length bytes.now) }
-    ensures few { IfOk result (λ r. r.pages ≤ max_old_block_pages) }
+    ensures few { IfOk result (λ r. r.pages ≤ max_block_pages) }
 {
     if bytes.len() < ROW_BYTES {
         return Err(shape(place + bytes.len(), PAST_THE_END));
@@ -122,7 +122,7 @@ pub(crate) fn read_row<'a>(
     if !before.allows(last) {
         return Err(shape(place + 14, NOT_ABOVE));
     }
-    if pages == 0 || pages > MAX_OLD_BLOCK_PAGES {
+    if pages == 0 || pages > MAX_BLOCK_PAGES {
         return Err(shape(place, NO_PAGES));
     }
     Ok(RowHere {

@@ -1,7 +1,7 @@
 //! The bytes of a part in whole pages.
 ghost use Rattle.std.specs.Prelude.{◌≡◌, ◌≤◌, ◌^◌, ◌++◌, length, IfOk};
 ghost use Rattle.byte_fields.specs.Sums.{fnv_of};
-ghost use Rattle.block_model.specs.Block.{padding};
+ghost use Rattle.block_model.specs.Pages.{padding};
 ghost use Rattle.block_model.specs.Pages.{pages_for};
 
 use block_model::pages_for;
@@ -19,7 +19,7 @@ pub(crate) struct Padded {
 
 impl Model for Padded {
     ghost use Rattle.std.specs.Prelude.{◌≡◌, ◌≤◌, ◌++◌, ℕ, List, length, take};
-    ghost use Rattle.block_model.specs.Block.{padding};
+    ghost use Rattle.block_model.specs.Pages.{padding};
 
     ghost Value = { List ℕ };
 
@@ -30,7 +30,7 @@ impl Model for Padded {
 
 impl Padded {
     /// Fills the last page with zero bytes.
-    #[tactic(auto, unfolding(block_model::specs::Block::padding, block_model::specs::Pages::pages_for))]
+    #[tactic(auto, unfolding(block_model::specs::Pages::padding, block_model::specs::Pages::pages_for))]
     pub(crate) fn new(mut bytes: Vec<u8>) -> Result<Padded, AllocError>
         ensures { IfOk result (λ p. p ≡ bytes.items) }
     {

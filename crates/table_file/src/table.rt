@@ -7,7 +7,8 @@ ghost use Rattle.disk_trait.specs.World.{ReadMoves, Rose};
 ghost use Rattle.disk_trait.specs.declared.fault.Op.TheVariants.{Read};
 ghost use Rattle.std.specs.List.{AllByRecursion};
 ghost use Rattle.map_model.specs.SortedMap.{Bytes};
-ghost use Rattle.block_format.specs.Spans.{StandsIn, kept_from, spanned};
+ghost use Rattle.block_format.specs.Walking.{StandsAfter, kept_from, walked};
+ghost use Rattle.key_base.specs.Limits.{max_block_pages, max_key_bytes};
 ghost use Rattle.filter_api.specs.Ranges.{IsRowInRange};
 ghost use Rattle.entry_model.specs.Entries.{Entry, IsEntry};
 ghost use Rattle.block_model.specs.Laws.{joined};
@@ -17,23 +18,23 @@ ghost use Rattle.block_model.specs.Pages.{page_bytes};
 ghost use Rattle.block_model.specs.Places.{byte_of_page};
 ghost use Rattle.table_file.specs.Faults.{HasReadCause, IsNoDamage, IsNoWant, IsOtherSum};
 ghost use Rattle.table_file.specs.Search.{IsBrokenBlock, IsDamagedBlock, IsGetFault, IsOtherBlock, IsSoundBlock, StandsThere, block_for, blocks_of_get, bytes_at, largest_block, page_at, row_at};
-ghost use Rattle.table_file.specs.Walks.{walk_from};
+ghost use Rattle.table_file.specs.Walks.{most_block_pages, walk_from};
 
 use crate::cursor::TableCursor;
 use crate::fault::TableFault;
 use crate::held_block::HeldBlock;
 use crate::index::BlockIndex;
 use crate::opening::same_sum;
-use block_format::{Block, BlockFault, EntrySpan, read_sum_and_span};
+use block_format::{Block, BlockFault, EntryWalk, read_sum_and_walk};
 use byte_fields::{Damage, Part, Row, fnv1a};
 use disk_trait::{Disk, DiskFault};
 use filter_api::RangeFilter;
-use key_base::{MAX_OLD_BLOCK_PAGES, PAGE_BYTES};
+use key_base::{MAX_BLOCK_PAGES, PAGE_BYTES};
 use std::alloc::{AllocError, Global};
 use std::marker::Model;
 
-/// The bytes of the largest block: the room that a buffer needs into which blocks are read.
-pub const LARGEST_BLOCK_BYTES: usize = PAGE_BYTES * MAX_OLD_BLOCK_PAGES as usize;
+/// The bytes of the largest block: the room that a buffer needs into which any block may be read.
+pub const LARGEST_BLOCK_BYTES: usize = PAGE_BYTES * MAX_BLOCK_PAGES as usize;
 
 /// A table on a device: its row, its index and its filter in memory.
 #[derive(Drop)]
@@ -109,6 +110,14 @@ impl<F: RangeFilter> Table<F> {
         &self.filter
     }
 
+    /// The most pages that one of its blocks has: what a buffer needs room for into which any of them may be read.
+    pub fn most_block_pages(&self) -> u32
+        ensures is { result ≡ most_block_pages self.now.index.rows }
+        ensures few { result ≤ max_block_pages }
+    {
+        self.index.most_pages()
+    }
+
     /// How many blocks it has, numbered from 0.
     pub fn blocks(&self) -> u32
         ensures { result ≡ length self.now.index.rows }
@@ -117,7 +126,7 @@ impl<F: RangeFilter> Table<F> {
     }
 
     /// What the table says of a key: its value, or `Some(None)` for a tombstone, and `None` where it has no entry of it. The
-    /// value is a part of the buffer, which has room for the largest block. At most one read, none where the filter denies
+    /// value is a part of the buffer, which has room for the largest block of the table. At most one read, none where the filter denies
     /// the key or it lies outside the least and the greatest key, and no memory.
     pub fn get<'a, D: Disk>(
         &self,
@@ -125,7 +134,7 @@ impl<F: RangeFilter> Table<F> {
         key: &[u8],
         buf: &'a mut [u8],
     ) -> Result<Option<Option<&'a [u8]>>, TableFault>
-        requires room { largest_block ≤ length buf.old }
+        requires room { page_bytes * most_block_pages self.now.index.rows ≤ length buf.old }
         ensures denied { block_for self.now key.now ≡ None → result ≡ Ok None }
         ensures taken { IfErr result IsNoWant }
         ensures cause { (n : ℕ) → block_for self.now key.now ≡ Some n → IfErr result (HasReadCause (byte_of_page (page_at self.now n)) (D.world disk.old) (D.world disk.new)) }
@@ -141,7 +150,7 @@ impl<F: RangeFilter> Table<F> {
         let Some(n) = self.block_for(key) else {
             return Ok(None);
         };
-        // no block is larger than the largest
+        // no block is larger than the largest of the table
         let room = self.block_bytes(n);
         prove!(room <= buf.len());
         let size = self.fetch(disk, n, buf)?;
@@ -161,11 +170,13 @@ impl<F: RangeFilter> Table<F> {
         }
     }
 
-    /// How many bytes the block number `n` has, 69,632 at most.
+    /// How many bytes the block number `n` has, 1,052,672 at most.
+    #[tactic(auto, using(crate::proofs::Rooms::row_within))]
     pub fn block_bytes(&self, n: u32) -> usize
         requires there { n < length self.now.index.rows }
         ensures size { result ≡ page_bytes * (row_at self.now.index.rows n).pages }
         ensures large { result ≤ largest_block }
+        ensures most { result ≤ page_bytes * most_block_pages self.now.index.rows }
     {
         PAGE_BYTES * self.index.row(n as usize).pages as usize
     }
@@ -289,30 +300,34 @@ impl<F: RangeFilter> Table<F> {
         }
     }
 
-    /// Where the entries of the block number `n` stand, from a key on where there is a bound, if these are its bytes as they were
-    /// read just now. Another sum than the index keeps is told before a rule that is broken.
+    /// A walk over the entries of the block number `n`, from a key on where there is a bound, if these are its bytes as they were
+    /// read just now. Another sum than the index keeps is told before a rule that is broken. The key before the first that is
+    /// walked is left in the buffer, which has 1,024 bytes.
     ///
     /// One pass over the bytes, and with a bound another up to it. No memory.
-    pub(crate) fn span_read(
+    pub(crate) fn walk_read(
         &self,
         n: u32,
         bytes: &[u8],
         low: Option<&[u8]>,
-    ) -> Result<EntrySpan, TableFault>
+        buffer: &mut [u8],
+    ) -> Result<EntryWalk, TableFault>
         requires there { n < length self.now.index.rows }
         requires size { length bytes.now ≤ largest_block }
+        requires buffer { max_key_bytes ≤ length buffer.old }
+        ensures room { length buffer.new ≡ length buffer.old }
         ensures sum { IfOk result (λ _. (row_at self.now.index.rows n).sum ≡ fnv_of bytes.now) }
         ensures whole { IfOk result (λ _. block_fault bytes.now ≡ None) }
-        ensures stands { IfOk result (λ span. StandsIn span bytes.now) }
-        ensures entries { IfOk result (λ span. spanned span bytes.now ≡ kept_from (option_map (λ k. k.now) low.entry) (block_in bytes.now)) }
-        ensures some { low.entry ≡ None → IfOk result (λ span. 1 ≤ span.left) }
-        ensures sound { IfOk result (λ span. AllByRecursion IsEntry (spanned span bytes.now)) }
+        ensures stands { IfOk result (λ walk. StandsAfter walk buffer.new bytes.now) }
+        ensures entries { IfOk result (λ walk. walked walk buffer.new bytes.now ≡ kept_from (option_map (λ k. k.now) low.entry) (block_in bytes.now)) }
+        ensures some { low.entry ≡ None → IfOk result (λ walk. 1 ≤ walk.left) }
+        ensures sound { IfOk result (λ walk. AllByRecursion IsEntry (walked walk buffer.new bytes.now)) }
         ensures damaged { IfErr result (IsDamagedBlock self.now n bytes.now) }
     {
-        let (sum, span) = read_sum_and_span(bytes, low);
+        let (sum, walk) = read_sum_and_walk(bytes, low, buffer);
         self.check_block(n, sum)?;
-        match span {
-            Ok(span) => Ok(span),
+        match walk {
+            Ok(walk) => Ok(walk),
             Err(fault) => Err(self.broken(n, fault)),
         }
     }
@@ -337,12 +352,12 @@ impl<F: RangeFilter> Table<F> {
         }
     }
 
-    /// A walk over its entries from a bound on. It takes all its memory: the bound, and room for the largest block. No
-    /// read.
+    /// A walk over its entries from a bound on. It takes all its memory: the bound, a key's 1,024 bytes, and room for the largest
+    /// block of this table. No read.
     pub fn cursor(&self, alloc: Global, low: &[u8]) -> Result<TableCursor, AllocError>
         ensures { IfOk result (λ c. c ≡ walk_from self.now low.now) }
     {
-        let held = HeldBlock::new(alloc)?;
+        let held = HeldBlock::new(alloc, self.index.most_pages())?;
         let bound = Vec::from_slice(alloc, low)?;
         Ok(TableCursor::new(bound, self.index.first_from(low), held))
     }

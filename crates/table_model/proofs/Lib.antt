@@ -1,4 +1,5 @@
 pub mod Shown
+pub mod Pieces
 pub mod Blocks
 pub mod OneTable
 pub mod Written

@@ -2,7 +2,7 @@
 use Rattle.std.proofs.Common.{◌≡◌, ◌≢◌, ◌+◌, ◌*◌, ℕ, List, [], ◌∷◌, length, refl, sym, ap, ◌∙◌, subst, Bool, false, cond, arith}
 use Rattle.std.proofs.lemmas.Bool.{cond-true, eq-eqb}
 use Rattle.std.proofs.lemmas.List.{length-map}
-use Rattle.std.specs.Prelude.{flat_map, map, Option, Some, None, ◌==◌}
+use Rattle.std.specs.Prelude.{map, Option, Some, None, ◌==◌}
 use Rattle.std.specs.List.{AllByRecursion}
 use Rattle.std.specs.Option.{option_map}
 use Rattle.byte_fields.specs.Sums.{fnv_of}
@@ -16,21 +16,18 @@ use Rattle.filter_api.specs.Ranges.{row_settings}
 use Rattle.filter_model.specs.Leaves.{Leaf, leaves_of}
 use Rattle.map_model.specs.SortedMap.{Bytes}
 use Rattle.entry_model.specs.Entries.{Entry, keys_of}
-use Rattle.block_model.specs.Block.{IsBlock, block_bytes}
 use Rattle.block_model.specs.BlockReading.{block_fault}
 use Rattle.byte_fields.specs.Faults.{Fault}
-use Rattle.block_model.specs.Index.{Index, IndexRow, index_bytes, index_row_of}
+use Rattle.block_model.specs.Index.{Index, IndexRow, index_bytes}
 use Rattle.block_model.specs.IndexReading.{index_fault, index_in}
 use Rattle.block_model.specs.Laws.{joined}
-use Rattle.block_model.specs.Pages.{block_pages}
 use Rattle.block_model.specs.Places.{byte_of_page, filter_page, index_page}
-use Rattle.block_model.proofs.BlocksRead.{block_again}
 use Rattle.block_model.proofs.IndexesRead.{index_again}
-use Rattle.block_model.proofs.Lengths.{block_fills}
 use Rattle.table_model.specs.Damage.{AreSoundBlocks, IsSoundFilter, block_damage, block_part, filter_part, index_damage, index_part, other_leaves, other_sum, other_widths, no_spelling, part_damage}
-use Rattle.table_model.specs.Images.{IsFilterOfKeys, IsTableAt, index_of_blocks}
+use Rattle.table_model.specs.Images.{IsFilterOfKeys, IsTableAt}
 use Rattle.table_model.specs.Laws.{BlockRules, BlocksHaveNone, FilterHasNone, FilterIsOfTheKeys, FilterRules, IndexHasNone, IndexRules, OneFilterDamage, SoundFilterHasNone}
-use Rattle.table_model.proofs.OneTable.{rows_of_index}
+use Rattle.table_model.specs.Pieces.{IsPiece, end_to_end, index_of_pieces, row_of_piece}
+use Rattle.table_model.proofs.Pieces.{piece_fills, row_pages_are, row_sum, rows_of_index}
 use Rattle.table_model.proofs.Shown.{shown_is, shown_parts}
 
 -- a part with the kept sum that breaks no rule
@@ -42,16 +39,16 @@ part_sound p at kept bytes fault same none =
 -- ---- the index
 
 module _ (spelling : Spelling) (row : Row) (blocks : List (List Entry)) (image : Image) (t : IsTableAt spelling row blocks image) where
-  index_there : index_part row image ≡ index_bytes (index_of_blocks blocks)
-  index_there = shown_is (byte_of_page (index_page row)) row.index_len (index_bytes (index_of_blocks blocks)) image t.index.size t.index.shown
+  index_there : index_part row image ≡ index_bytes (index_of_pieces t.pieces)
+  index_there = shown_is (byte_of_page (index_page row)) row.index_len (index_bytes (index_of_pieces t.pieces)) image t.index.size t.index.shown
 
   index_sound : index_damage row image ≡ None
   index_sound = part_sound part.Index (byte_of_page (index_page row)) row.index_sum (index_part row image) (index_fault row.data_pages (index_part row image))
       (sym t.index.sum ∙ ap fnv_of (sym index_there))
-      (ap (index_fault row.data_pages) index_there ∙ (index_again row.data_pages (index_of_blocks blocks) t.index_sound).0)
+      (ap (index_fault row.data_pages) index_there ∙ (index_again row.data_pages (index_of_pieces t.pieces) t.index_sound).0)
 
-  pub index_read : index_in (index_part row image) ≡ index_of_blocks blocks
-  index_read = ap index_in index_there ∙ (index_again row.data_pages (index_of_blocks blocks) t.index_sound).1
+  pub index_read : index_in (index_part row image) ≡ index_of_pieces t.pieces
+  index_read = ap index_in index_there ∙ (index_again row.data_pages (index_of_pieces t.pieces) t.index_sound).1
 
   filter_there : filter_part row image ≡ t.filter_bytes
   filter_there = shown_is (byte_of_page (filter_page row)) row.filter_len t.filter_bytes image t.filter.size t.filter.shown
@@ -79,37 +76,28 @@ filter_of_keys spelling row blocks image t = filter_spelled spelling row blocks 
 
 -- ---- the blocks
 
-row_sum : (block : List Entry) → (index_row_of block).sum ≡ fnv_of (block_bytes block)
-unfolding index_row_of
-row_sum block = refl
+piece_sound : (page : ℕ) (piece : Bytes) (image : Image) → IsPiece piece → Shows (byte_of_page page) piece image → block_damage page (row_of_piece piece) image ≡ None
+piece_sound page piece image is shown =
+    let there : block_part page (row_of_piece piece) image ≡ piece =
+    shown_is (byte_of_page page) (4096 * (row_of_piece piece).pages) piece image (piece_fills piece is.whole ∙ ap (λ (n : ℕ). 4096 * n) (sym (row_pages_are piece))) shown in
+    part_sound part.Block (byte_of_page page) (row_of_piece piece).sum (block_part page (row_of_piece piece) image) (block_fault (block_part page (row_of_piece piece) image))
+    (row_sum piece ∙ ap fnv_of (sym there)) (ap block_fault there ∙ is.whole)
 
-row_pages_are : (block : List Entry) → (index_row_of block).pages ≡ block_pages block
-unfolding index_row_of
-row_pages_are block = refl
-
-block_sound : (page : ℕ) (block : List Entry) (image : Image) → IsBlock block → Shows (byte_of_page page) (block_bytes block) image
-    → block_damage page (index_row_of block) image ≡ None
-block_sound page block image is shown =
-    let there : block_part page (index_row_of block) image ≡ block_bytes block =
-    shown_is (byte_of_page page) (4096 * (index_row_of block).pages) (block_bytes block) image (block_fills block ∙ ap (λ (n : ℕ). 4096 * n) (sym (row_pages_are block))) shown in
-    part_sound part.Block (byte_of_page page) (index_row_of block).sum (block_part page (index_row_of block) image) (block_fault (block_part page (index_row_of block) image))
-    (row_sum block ∙ ap fnv_of (sym there)) (ap block_fault there ∙ (block_again block is).0)
-
-blocks_sound : (page : ℕ) (blocks : List (List Entry)) (image : Image) → AllByRecursion IsBlock blocks → Shows (byte_of_page page) (flat_map block_bytes blocks) image
-    → AreSoundBlocks page (map index_row_of blocks) image
-blocks_sound page [] image each shown = tt
-blocks_sound page (block ∷ later) image each shown =
-    let parts = shown_parts (byte_of_page page) (block_bytes block) (flat_map block_bytes later) image shown in
-    let next : byte_of_page page + length (block_bytes block) ≡ byte_of_page (page + (index_row_of block).pages) = omega (arith, block_fills block, row_pages_are block) in (
-      block_sound page block image each.0 parts.0,
-      blocks_sound (page + (index_row_of block).pages) later image each.1 (subst (λ (at : ℕ). Shows at (flat_map block_bytes later) image) next parts.1),
+pieces_sound : (page : ℕ) (pieces : List Bytes) (image : Image) → AllByRecursion IsPiece pieces → Shows (byte_of_page page) (end_to_end pieces) image
+    → AreSoundBlocks page (map row_of_piece pieces) image
+pieces_sound page [] image each shown = tt
+pieces_sound page (piece ∷ later) image each shown =
+    let parts = shown_parts (byte_of_page page) piece (end_to_end later) image shown in
+    let next : byte_of_page page + length piece ≡ byte_of_page (page + (row_of_piece piece).pages) = omega (arith, piece_fills piece each.0.whole, row_pages_are piece) in (
+      piece_sound page piece image each.0 parts.0,
+      pieces_sound (page + (row_of_piece piece).pages) later image each.1 (subst (λ (at : ℕ). Shows at (end_to_end later) image) next parts.1),
     )
 
 pub blocks_have_none : BlocksHaveNone
 blocks_have_none spelling row blocks image t =
     subst (λ (rows : List IndexRow). AreSoundBlocks row.first_page rows image)
-    (sym (ap (λ (i : Index). i.rows) (index_read spelling row blocks image t) ∙ rows_of_index blocks))
-    (blocks_sound row.first_page blocks image t.each t.blocks_shown)
+    (sym (ap (λ (i : Index). i.rows) (index_read spelling row blocks image t) ∙ rows_of_index t.pieces))
+    (pieces_sound row.first_page t.pieces image t.each t.blocks_shown)
 
 -- ---- the filter: one damage, or none
 

@@ -7,20 +7,26 @@ use Rattle.filter_api.specs.Spellings.{Spelling}
 use Rattle.filter_api.specs.declared.settings.Settings.{Settings}
 use Rattle.map_model.specs.SortedMap.{Bytes}
 use Rattle.entry_model.specs.Entries.{Entry, keys_of}
-use Rattle.block_model.specs.Block.{IsTable, data_bytes}
-use Rattle.block_model.specs.Index.{Index, IsIndex, index_bytes, index_of, index_row_of}
+use Rattle.block_model.specs.Block.{IsTable, block_bytes, data_bytes}
+use Rattle.block_model.specs.Index.{Index, IsIndex, index_bytes, index_of}
 use Rattle.block_model.specs.Pages.{blocks_of, data_pages, first_key}
 use Rattle.block_model.specs.Places.{byte_of_page, index_page, pages_of}
 use Rattle.block_model.proofs.Cutting.{blocks_are_sound, blocks_joined}
 use Rattle.block_model.proofs.Lengths.{index_long}
 use Rattle.block_model.proofs.TableIndex.{index_sound}
-use Rattle.table_model.specs.Images.{IsFilterOfKeys, IsPart, IsTableAt, index_of_blocks}
+use Rattle.table_model.specs.Images.{IsFilterOfKeys, IsPart, IsTableAt}
 use Rattle.table_model.specs.Laws.{TableStands}
+use Rattle.table_model.specs.Pieces.{blocks_in, index_of_pieces}
+use Rattle.table_model.proofs.Pieces.{all_written_pages, pieces_are_read, written_bytes, written_pieces, written_rows}
+use Rattle.block_model.specs.Laws.{joined}
 use Rattle.table_model.specs.Written.{ArePartsShown, row_for}
 
-same_index : (entries : List Entry) → index_of entries ≡ index_of_blocks (blocks_of entries)
-unfolding index_of index_of_blocks
-same_index entries = λ i. record { least = first_key (sym (blocks_joined entries) i); rows = map index_row_of (blocks_of entries) }
+same_index : (entries : List Entry) → IsTable entries → index_of entries ≡ index_of_pieces (map block_bytes (blocks_of entries))
+unfolding index_of index_of_pieces
+same_index entries is =
+    let each = blocks_are_sound entries is in
+    let all : entries ≡ joined (blocks_in (map block_bytes (blocks_of entries))) = sym (ap joined (pieces_are_read (blocks_of entries) each) ∙ blocks_joined entries) in
+    λ i. record { least = first_key (all i); rows = sym (written_rows (blocks_of entries) each) i }
 
 module _ (level first_page : ℕ) (settings : Settings) (entries : List Entry) (filter_bytes : Bytes) (image : Image) where
   index_there : (index : Index) → index_of entries ≡ index → ArePartsShown (row_for level first_page settings entries filter_bytes) entries filter_bytes image
@@ -37,14 +43,16 @@ blocks_stand : (spelling : Spelling) (settings : Settings) (level first_page : �
     → IsTableAt spelling (row_for level first_page settings entries filter_bytes) (blocks_of entries) image
 unfolding row_for data_bytes data_pages
 blocks_stand spelling settings level first_page entries filter_bytes image is spelled shown = record {
-  each = blocks_are_sound entries is;
+  pieces = map block_bytes (blocks_of entries);
+  read = pieces_are_read (blocks_of entries) (blocks_are_sound entries is);
+  each = written_pieces (blocks_of entries) (blocks_are_sound entries is);
   table = subst IsTable (sym (blocks_joined entries)) is;
-  blocks_shown = shown.blocks;
-  data_pages = refl;
+  blocks_shown = subst (λ (bytes : Bytes). Shows (byte_of_page first_page) bytes image) (sym (written_bytes (blocks_of entries))) shown.blocks;
+  data_pages = all_written_pages (blocks_of entries);
   index_pages = refl;
   filter_pages = refl;
-  index_sound = subst (IsIndex (data_pages entries)) (same_index entries) (index_sound entries is);
-  index = index_there level first_page settings entries filter_bytes image (index_of_blocks (blocks_of entries)) (same_index entries) shown;
+  index_sound = subst (IsIndex (data_pages entries)) (same_index entries is) (index_sound entries is);
+  index = index_there level first_page settings entries filter_bytes image (index_of_pieces (map block_bytes (blocks_of entries))) (same_index entries is) shown;
   filter_bytes = filter_bytes;
   filter_of_keys = subst (λ (es : List Entry). IsFilterOfKeys spelling settings (keys_of es) filter_bytes) (sym (blocks_joined entries)) spelled;
   filter = record { shown = shown.filter; size = refl; sum = refl };

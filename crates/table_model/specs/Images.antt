@@ -1,5 +1,5 @@
 -- A table as it stands on a device: its blocks, its index and its filter, one after the other.
-use Rattle.std.specs.Prelude.{◌≡◌, ℕ, List, length, map, flat_map, sum_by}
+use Rattle.std.specs.Prelude.{◌≡◌, ℕ, List, length, sum_by}
 use Rattle.std.specs.List.{AllByRecursion}
 use Rattle.disk_trait.specs.Image.{Image, Shows}
 use Rattle.byte_fields.specs.Sums.{fnv_of}
@@ -10,11 +10,12 @@ use Rattle.filter_api.specs.Spellings.{Spelling, IsSpelling}
 use Rattle.filter_model.specs.Leaves.{leaves_of}
 use Rattle.map_model.specs.SortedMap.{Bytes}
 use Rattle.entry_model.specs.Entries.{Entry, keys_of}
-use Rattle.block_model.specs.Block.{IsBlock, IsTable, block_bytes}
-use Rattle.block_model.specs.Index.{Index, IsIndex, index_row_of, index_bytes}
+use Rattle.block_model.specs.Block.{IsTable}
+use Rattle.block_model.specs.Index.{IsIndex, index_bytes}
 use Rattle.block_model.specs.Laws.{joined}
-use Rattle.block_model.specs.Pages.{block_pages, first_key, pages_for}
+use Rattle.block_model.specs.Pages.{pages_for}
 use Rattle.block_model.specs.Places.{byte_of_page, filter_page, index_page, pages_of}
+use Rattle.table_model.specs.Pieces.{IsPiece, blocks_in, end_to_end, index_of_pieces, piece_pages}
 use Rattle.table_model.specs.Tables.{Table}
 
 -- a part stands at its page, with the length and the sum that the row keeps
@@ -23,26 +24,25 @@ pub record IsPart (page length_kept sum_kept : ℕ) (bytes : Bytes) (image : Ima
   pub size : length bytes ≡ length_kept
   pub sum : fnv_of bytes ≡ sum_kept
 
--- the index of some blocks
-unfoldable pub index_of_blocks : List (List Entry) → Index
-index_of_blocks blocks = record { least = first_key (joined blocks); rows = map index_row_of blocks }
-
 -- the bytes spell a filter that stands for the leaves of these keys, with any cutoff
 pub record IsFilterOfKeys (spelling : Spelling) (settings : Settings) (keys : List Bytes) (bytes : Bytes) : Type 0 where
   pub cutoff : ℕ
   pub spelled : IsSpelling spelling settings.hash_bits settings.real_bits cutoff (leaves_of settings.hash_bits settings.real_bits keys) bytes
 
--- The row's pages spell a table of these blocks: sound blocks whose keys go on rising from one to the next, their index,
--- and a filter of their keys by the row's settings. Index and filter have the pages that their lengths want.
+-- The row's pages spell a table of these blocks: pieces of either format, one for each block, whose keys go on rising from one
+-- to the next, the index of the pieces, and a filter of their keys by the row's settings. Index and filter have the pages that
+-- their lengths want.
 pub record IsTableAt (spelling : Spelling) (row : Row) (blocks : List (List Entry)) (image : Image) : Type 0 where
-  pub each : AllByRecursion IsBlock blocks
+  pub pieces : List Bytes
+  pub read : blocks_in pieces ≡ blocks
+  pub each : AllByRecursion IsPiece pieces
   pub table : IsTable (joined blocks)
-  pub blocks_shown : Shows (byte_of_page row.first_page) (flat_map block_bytes blocks) image
-  pub data_pages : sum_by block_pages blocks ≡ row.data_pages
+  pub blocks_shown : Shows (byte_of_page row.first_page) (end_to_end pieces) image
+  pub data_pages : sum_by piece_pages pieces ≡ row.data_pages
   pub index_pages : row.index_pages ≡ pages_for row.index_len
   pub filter_pages : row.filter_pages ≡ pages_for row.filter_len
-  pub index_sound : IsIndex row.data_pages (index_of_blocks blocks)
-  pub index : IsPart (index_page row) row.index_len row.index_sum (index_bytes (index_of_blocks blocks)) image
+  pub index_sound : IsIndex row.data_pages (index_of_pieces pieces)
+  pub index : IsPart (index_page row) row.index_len row.index_sum (index_bytes (index_of_pieces pieces)) image
   pub filter_bytes : Bytes
   pub filter_of_keys : IsFilterOfKeys spelling (row_settings row) (keys_of (joined blocks)) filter_bytes
   pub filter : IsPart (filter_page row) row.filter_len row.filter_sum filter_bytes image

@@ -11,6 +11,7 @@ pub use Rattle.filter_api.specs.Spellings
 pub use Rattle.filter_model.specs.Leaves
 pub use Rattle.map_model.specs.SortedMap
 pub mod Tables
+pub mod Pieces
 pub mod Images
 pub mod Damage
 pub mod Written

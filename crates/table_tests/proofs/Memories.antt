@@ -7,7 +7,7 @@ use Rattle.map_model.proofs.Maps.{by_order}
 use Rattle.entry_model.specs.Entries.{Entry, IsEntry}
 use Rattle.entry_model.specs.Newest.{with_entry}
 use Rattle.merge_rows.specs.Merges.{Merge, merge_from}
-use Rattle.merge_rows.specs.Steps.{AreNumbersIn, numbers}
+use Rattle.merge_rows.specs.Steps.{AreWalksIn, numbers, stands}
 use Rattle.table_file.specs.Opened.{Opened}
 
 pub all_with : (entries : List Entry) (new : Entry) → AllByRecursion IsEntry entries → IsEntry new → AllByRecursion IsEntry (with_entry entries new)
@@ -17,6 +17,6 @@ all_with (e ∷ more) new all entry = by_order (λ o. AllByRecursion IsEntry (in
 
 -- the numbers of a merge of four tables are those of tables
 pub four_numbers : (m : Merge) (tables : List Opened) (memory : Option (List Entry)) (low : Bytes) (drops : Bool) → m ≡ merge_from (3 ∷ 2 ∷ 1 ∷ 0 ∷ []) tables memory low drops → length tables ≡ 4
-    → AreNumbersIn tables (numbers m.walks)
+    → AreWalksIn tables (stands m.walks)
 four_numbers m tables memory low drops is many =
-    subst (λ (m : Merge). AreNumbersIn tables (numbers m.walks)) (sym is) (omega (arith, many), (omega (arith, many), (omega (arith, many), (omega (arith, many), tt))))
+    subst (λ (m : Merge). AreWalksIn tables (stands m.walks)) (sym is) (omega (arith, many), (omega (arith, many), (omega (arith, many), (omega (arith, many), tt))))

@@ -5,8 +5,10 @@ use std::test::Fail;
 // The block of a with the value b.
 fn a_b() -> [u8; 4096] {
     let mut page = [0; 4096];
-    let used = [0x11, 0, 0, 0, 1, 0, 0, 0, 1, 1, 0, 1, 0, 0, 0, 0x61, 0x62];
-    page[..17].copy_from_slice(&used);
+    let used = [
+        0x15, 0, 0, 0, 1, 2, 0, 0, 0x0A, 0, 1, 0, 0, 1, 0, 1, 0, 0, 0, 0x61, 0x62,
+    ];
+    page[..21].copy_from_slice(&used);
     page
 }
 
@@ -31,8 +33,9 @@ fn what_a_builder_wrote_is_read(rt: HostRuntime) -> Result<(), Fail> {
     assert_eq!(rt; Block::read_and_find(bytes, b"ab"), Ok(Some(None)));
     assert_eq!(rt; Block::find_in_sound(bytes, b"ab"), Some(None));
     assert_eq!(rt; Block::find_in_sound(bytes, b"aa"), None);
-    let mut cursor = block.from(b"aa");
-    assert!(rt; matches!(cursor.next(), Some((b"ab", None))));
-    assert!(rt; cursor.next().is_none());
+    let mut cursor = block.from(Some(b"aa"));
+    assert!(rt; cursor.advance());
+    assert!(rt; matches!(cursor.entry(), Some((b"ab", None))));
+    assert!(rt; !cursor.advance());
     Ok(())
 }

@@ -18,7 +18,7 @@ const INDEX: u64 = 790_528;
 const FILTER: u64 = 794_624;
 
 // The sums of its block, its index and its filter.
-const SUMS: [u64; 3] = [0xEBA7FA7C4D3D0FAD, 0x880CE8CE6E0D2AB5, 0x945C728291C39EAE];
+const SUMS: [u64; 3] = [0x587B62AD428B4221, 0x719879D8B45A6D0D, 0x945C728291C39EAE];
 
 fn shape(part: Part, at: u64, rule: u8) -> Option<TableFault> {
     Some(TableFault::Damaged(Damage::Shape { part, at, rule }))
@@ -70,6 +70,7 @@ fn each_rule_of_an_index_at_its_byte(rt: HostRuntime) -> Result<(), Fail> {
         (23, 0x00, 23, 4),
         (10, 0x62, 25, 5),
         (11, 0x00, 11, 6),
+        (12, 0x02, 11, 6),
         (11, 0x02, 4, 8),
     ];
     for (place, byte, at, rule) in rows {
@@ -114,7 +115,7 @@ fn another_sum_comes_before_the_rules(rt: HostRuntime) -> Result<(), Fail> {
     change_index(&mut disk, 11, &[2])?;
     assert_eq!(rt;
         fault_of(alloc, &mut disk, &row)?,
-        sums(Part::Index, INDEX, index, 0x5B1C021F6EFB4BD8)
+        sums(Part::Index, INDEX, index, 0x79A39C0ACC55B4A8)
     );
     let (mut disk, row) = one_entry(alloc)?;
     assert!(rt; disk.write(FILTER + 13, &[1]).is_ok());
@@ -156,7 +157,7 @@ fn index_and_filter_are_read_by_themselves(rt: HostRuntime) -> Result<(), Fail> 
     assert!(rt; disk.write(FILTER + 13, &[1]).is_ok());
     assert_eq!(rt;
         read_index(alloc, &mut *disk, &row).err(),
-        sums(Part::Index, INDEX, index, 0x5B1C021F6EFB4BD8)
+        sums(Part::Index, INDEX, index, 0x79A39C0ACC55B4A8)
     );
     let found: Result<PlainFilter, TableFault> = read_filter(alloc, &mut *disk, &row);
     assert_eq!(rt;
@@ -225,10 +226,10 @@ fn a_changed_byte_of_a_block(rt: HostRuntime) -> Result<(), Fail> {
     let [block, _, _] = SUMS;
     let (mut disk, row) = one_entry(alloc)?;
     assert_eq!(rt; get_a(alloc, &mut disk, &row)?, (None, 1));
-    assert!(rt; disk.write(BLOCK + 20, &[1]).is_ok());
+    assert!(rt; disk.write(BLOCK + 24, &[1]).is_ok());
     assert_eq!(rt;
         get_a(alloc, &mut disk, &row)?,
-        (sums(Part::Block, BLOCK, block, 0x38AAAA130B64EF7C), 1)
+        (sums(Part::Block, BLOCK, block, 0xFC0D5768375EC880), 1)
     );
     Ok(())
 }
@@ -249,14 +250,17 @@ fn change_block(disk: &mut MemDisk, place: usize, others: &[u8]) -> Result<u64, 
 fn each_rule_of_a_block_at_its_byte(rt: HostRuntime) -> Result<(), Fail> {
     let alloc = rt.alloc();
     let rows = [
-        (0, 0x0F, 0, 1),
+        (0, 0x13, 0, 1),
         (4, 0x00, 4, 2),
-        (4, 0x02, 17, 3),
-        (8, 0x03, 8, 4),
-        (8, 0x02, 8, 4),
-        (9, 0x00, 8, 5),
-        (0, 0x12, 17, 7),
-        (20, 0x01, 20, 8),
+        (5, 0x01, 5, 2),
+        (8, 0x0B, 8, 9),
+        (4, 0x02, 21, 3),
+        (10, 0x03, 10, 4),
+        (10, 0x02, 10, 4),
+        (13, 0x00, 10, 5),
+        (11, 0x01, 10, 10),
+        (0, 0x16, 21, 7),
+        (24, 0x01, 24, 8),
         (4_095, 0x01, 4_095, 8),
     ];
     for (place, byte, at, rule) in rows {
@@ -270,27 +274,27 @@ fn each_rule_of_a_block_at_its_byte(rt: HostRuntime) -> Result<(), Fail> {
     Ok(())
 }
 
-// The entry twice, in a block of 26 bytes.
+// The entry twice, in a block of 31 bytes: the second shares its whole key.
 #[test]
 fn a_block_of_equal_keys(rt: HostRuntime) -> Result<(), Fail> {
     let alloc = rt.alloc();
     let (mut disk, mut row) = one_entry(alloc)?;
-    let entry = [1, 1, 0, 1, 0, 0, 0, 0x61, 0x62];
-    change_block(&mut disk, 17, &entry)?;
-    row.index_sum = change_block(&mut disk, 0, &[26, 0, 0, 0, 2])?;
+    let entry = [1, 1, 0, 0, 0, 1, 0, 0, 0, 0x62];
+    change_block(&mut disk, 21, &entry)?;
+    row.index_sum = change_block(&mut disk, 0, &[31, 0, 0, 0, 2])?;
     assert_eq!(rt;
         get_a(alloc, &mut disk, &row)?,
-        (shape(Part::Block, BLOCK + 17, 6), 1)
+        (shape(Part::Block, BLOCK + 21, 6), 1)
     );
     Ok(())
 }
 
-// Its length is that of the largest block, 66,575 bytes in 17 pages, where the index says one page: one page is read.
+// Its length is that of the largest block, 1,049,619 bytes in 257 pages, where the index says one page: one page is read.
 #[test]
-fn a_block_that_claims_seventeen_pages(rt: HostRuntime) -> Result<(), Fail> {
+fn a_block_that_claims_257_pages(rt: HostRuntime) -> Result<(), Fail> {
     let alloc = rt.alloc();
     let (mut disk, mut row) = one_entry(alloc)?;
-    row.index_sum = change_block(&mut disk, 0, &66_575u32.to_le_bytes())?;
+    row.index_sum = change_block(&mut disk, 0, &1_049_619u32.to_le_bytes())?;
     assert_eq!(rt;
         get_a(alloc, &mut disk, &row)?,
         (shape(Part::Block, BLOCK, 1), 1)

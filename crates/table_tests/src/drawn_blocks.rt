@@ -1,9 +1,9 @@
 //! Blocks of both formats over drawn entries, beside the plain list of these: each key of a block, the keys beside it and the
 //! parts that it begins with are sought, and the block is walked from each of them.
-use block_format::{AnyBlock, PrefixedBuilder, read_sum_and_walk, value_of};
+use block_format::{Block, BlockBuilder, read_sum_and_walk, value_of};
 use byte_fields::fnv1a;
 use entry_list::{Entry, lookup, push_copy};
-use plain_blocks::{are_entries, are_prefixed_entries, block_bytes, prefixed_block_bytes};
+use plain_blocks::{are_entries, block_bytes, old_block_bytes};
 use std::alloc::{AllocError, Global};
 use std::test::Fail;
 use test_kit::Numbers;
@@ -77,7 +77,7 @@ pub fn entries_of(
 }
 
 // Adds an entry whose key and value keep the limits.
-fn add(builder: &mut PrefixedBuilder, entry: &Entry) -> Result<bool, Fail> {
+fn add(builder: &mut BlockBuilder, entry: &Entry) -> Result<bool, Fail> {
     let key = entry.key();
     let value = entry.value();
     if key.is_empty() || key.len() > 1_024 || value.is_some_and(|value| value.len() > 1_048_576) {
@@ -88,7 +88,7 @@ fn add(builder: &mut PrefixedBuilder, entry: &Entry) -> Result<bool, Fail> {
 
 // The block of some entries as the builder writes it.
 fn built(alloc: Global, list: &[Entry]) -> Result<Vec<u8>, Fail> {
-    let mut builder = PrefixedBuilder::new(alloc);
+    let mut builder = BlockBuilder::new(alloc);
     let mut out = Vec::new(alloc);
     for entry in list {
         if !add(&mut builder, entry)? {
@@ -110,7 +110,7 @@ fn is_below(key: &[u8], low: Option<&[u8]>) -> bool {
 }
 
 // Whether a cursor from a key on comes by the entries of a list that are not below it, and by no other ones.
-fn is_walked(block: &AnyBlock<'_>, list: &[Entry], low: Option<&[u8]>) -> bool {
+fn is_walked(block: &Block<'_>, list: &[Entry], low: Option<&[u8]>) -> bool {
     let mut cursor = block.from(low);
     if cursor.entry().is_some() {
         return false;
@@ -151,12 +151,12 @@ fn is_kept_walked(bytes: &[u8], list: &[Entry], low: Option<&[u8]>) -> bool {
 }
 
 // Whether a block says of a key what a list does, and is walked from it.
-fn is_sought(block: &AnyBlock<'_>, list: &[Entry], key: &[u8]) -> bool {
+fn is_sought(block: &Block<'_>, list: &[Entry], key: &[u8]) -> bool {
     block.find(key) == lookup(list, key) && is_walked(block, list, Some(key))
 }
 
 // Whether a key is sought rightly, and each part that it begins with.
-fn are_parts_sought(block: &AnyBlock<'_>, list: &[Entry], key: &[u8]) -> bool {
+fn are_parts_sought(block: &Block<'_>, list: &[Entry], key: &[u8]) -> bool {
     for length in 0..=key.len() {
         if !is_sought(block, list, &key[..length]) {
             return false;
@@ -168,7 +168,7 @@ fn are_parts_sought(block: &AnyBlock<'_>, list: &[Entry], key: &[u8]) -> bool {
 // Whether a key is sought rightly with the parts that it begins with, and so are the ones just before it and just after it.
 fn is_found_among(
     alloc: Global,
-    block: &AnyBlock<'_>,
+    block: &Block<'_>,
     list: &[Entry],
     number: u64,
 ) -> Result<bool, AllocError> {
@@ -185,8 +185,8 @@ fn is_found_among(
 // Whether the other calls that read a block say the same of a key.
 fn is_read(bytes: &[u8], list: &[Entry], key: &[u8]) -> bool {
     let said = lookup(list, key);
-    AnyBlock::read_and_find(bytes, key) == Ok(said)
-        && AnyBlock::read_sum_and_find(bytes, key) == (fnv1a(bytes), Ok(said))
+    Block::read_and_find(bytes, key) == Ok(said)
+        && Block::read_sum_and_find(bytes, key) == (fnv1a(bytes), Ok(said))
         && is_kept_walked(bytes, list, Some(key))
 }
 
@@ -197,7 +197,7 @@ fn is_block_of(
     list: &[Entry],
     keys: &[u64],
 ) -> Result<bool, AllocError> {
-    let Ok(block) = AnyBlock::read(bytes) else {
+    let Ok(block) = Block::read(bytes) else {
         return Ok(false);
     };
     if !is_walked(&block, list, None) || !is_kept_walked(bytes, list, None) {
@@ -219,14 +219,11 @@ fn drawn_blocks_of_both_formats(rt: HostRuntime) -> Result<(), Fail> {
         let keys = drawn_keys(alloc, &mut numbers, count)?;
         let list = entries_of(alloc, &mut numbers, &keys)?;
         let list = list.as_slice();
-        assert!(rt; are_prefixed_entries(list) && are_entries(list));
+        assert!(rt; are_entries(list));
         let bytes = built(alloc, list)?;
-        assert_eq!(rt;
-            bytes.as_slice(),
-            prefixed_block_bytes(alloc, list)?.as_slice()
-        );
+        assert_eq!(rt; bytes.as_slice(), block_bytes(alloc, list)?.as_slice());
         assert!(rt; is_block_of(alloc, &bytes, list, &keys)?);
-        let old = block_bytes(alloc, list)?;
+        let old = old_block_bytes(alloc, list)?;
         assert!(rt; is_block_of(alloc, &old, list, &keys)?);
         let key = key_of(alloc, numbers.draw_to(600))?;
         assert!(rt; is_read(&bytes, list, &key) && is_read(&old, list, &key));
@@ -248,7 +245,7 @@ fn drawn_blocks_of_every_size(rt: HostRuntime) -> Result<(), Fail> {
         };
         let key = key_of(alloc, *number)?;
         assert!(rt; is_read(&bytes, list, &key));
-        let Ok(block) = AnyBlock::read(&bytes) else {
+        let Ok(block) = Block::read(&bytes) else {
             return Err(Fail::from("no block"));
         };
         assert!(rt; is_walked(&block, list, None) && are_parts_sought(&block, list, &key));

@@ -11,7 +11,7 @@ ghost use Rattle.block_model.specs.Places.{FitsDevice};
 use byte_fields::Row;
 use disk_mem::MemDisk;
 use filter_api::Settings;
-use key_base::{MAX_KEY_BYTES, MAX_LOGGED_VALUE_BYTES};
+use key_base::{MAX_KEY_BYTES, MAX_VALUE_BYTES};
 use plain_filter::PlainFilter;
 use std::alloc::{AllocError, Global};
 use std::test::Fail;
@@ -56,7 +56,7 @@ pub fn try_add(
     if key.is_empty() || key.len() > MAX_KEY_BYTES {
         return Err(Fail::from("no key"));
     }
-    if size_of(value) > MAX_LOGGED_VALUE_BYTES {
+    if size_of(value) > MAX_VALUE_BYTES {
         return Err(Fail::from("no value"));
     }
     if !builder.is_above_all(key) {
@@ -111,8 +111,8 @@ pub fn row_at(parts: Parts<PlainFilter>, disk: &mut MemDisk, page: u32) -> Resul
     Ok(row)
 }
 
-// The row of the entries' table, written to a disk.
-fn row_on(builder: TableBuilder, disk: &mut MemDisk) -> Result<Row, Fail> {
+/// The row of the entries' table, written to a disk.
+pub fn row_on(builder: TableBuilder, disk: &mut MemDisk) -> Result<Row, Fail> {
     let (_, row) = written(builder, disk)?;
     Ok(row)
 }

@@ -2,7 +2,7 @@
 ghost use Rattle.std.specs.Prelude.{◌≡◌, IfOk, IfSome};
 ghost use Rattle.std.specs.List.{AllByRecursion};
 ghost use Rattle.entry_model.specs.Entries.{IsEntry};
-ghost use Rattle.merge_rows.specs.Steps.{AreNumbersIn, numbers};
+ghost use Rattle.merge_rows.specs.Steps.{AreWalksIn, numbers, stands};
 
 use crate::made::{
     BASE, FIRST_PAGE, add, boxed, bytes_in, key_of, new_disk, opened, row_at, size_of,
@@ -144,7 +144,7 @@ fn rows_of<'m>(
     drop_tombstones: bool,
 ) -> Result<MergeRows<'m>, Fail>
     requires { IfSome memory (λ m. AllByRecursion IsEntry m.now.entries) }
-    ensures { IfOk result (λ rows. AreNumbersIn tables.now.tables (numbers rows.walks)) }
+    ensures { IfOk result (λ rows. AreWalksIn tables.now.tables (stands rows.walks)) }
 {
     if tables.len() != 4 {
         return Err(Fail::from("no tables"));
@@ -161,7 +161,7 @@ fn next_is(
     row: Option<(&[u8], Option<&[u8]>)>,
     faults: &mut u8,
 ) -> bool
-    requires { AreNumbersIn tables.now.tables (numbers rows.old.walks) }
+    requires { AreWalksIn tables.now.tables (stands rows.old.walks) }
     ensures { numbers rows.new.walks ≡ numbers rows.old.walks }
 {
     if rows.advance(disk, tables).is_err() {
@@ -180,7 +180,7 @@ fn are_rows(
     tables: &Tables<PlainFilter>,
     keys: (u16, bool, bool),
 ) -> (bool, u8)
-    requires { AreNumbersIn tables.now.tables (numbers rows.old.walks) }
+    requires { AreWalksIn tables.now.tables (stands rows.old.walks) }
 {
     let (low, with_memory, drop_tombstones) = keys;
     let mut faults = 0;
@@ -257,7 +257,7 @@ fn steps(
     tables: &Tables<PlainFilter>,
     count: u16,
 ) -> bool
-    requires { AreNumbersIn tables.now.tables (numbers rows.old.walks) }
+    requires { AreWalksIn tables.now.tables (stands rows.old.walks) }
     ensures { numbers rows.new.walks ≡ numbers rows.old.walks }
 {
     for step in 0..count {

@@ -1,11 +1,9 @@
 //! Blocks with shared prefixes: what is read of changed bytes, and what is found in them.
 use crate::drawn_blocks::{drawn_keys, entries_of};
-use block_format::{AnyBlock, PrefixedBuilder};
+use block_format::{Block, BlockBuilder};
 use byte_fields::fnv1a;
 use entry_list::{Entry, push_copy};
-use plain_blocks::{
-    are_entries, are_prefixed_entries, block_bytes, prefixed_block_bytes, prefixed_block_length,
-};
+use plain_blocks::{are_entries, block_bytes, block_length, old_block_bytes};
 use std::alloc::{AllocError, Global};
 use std::test::Fail;
 use test_kit::Numbers;
@@ -22,7 +20,7 @@ fn a_b() -> [u8; 4096] {
 
 // The rule that the bytes break first, and where.
 fn fault_of(bytes: &[u8]) -> Option<(usize, u8)> {
-    match AnyBlock::read(bytes) {
+    match Block::read(bytes) {
         Ok(_) => None,
         Err(fault) => Some((fault.place, fault.rule)),
     }
@@ -32,8 +30,8 @@ fn fault_of(bytes: &[u8]) -> Option<(usize, u8)> {
 fn a_block_of_one_entry(rt: HostRuntime) -> Result<(), Fail> {
     let mut list = Vec::new(rt.alloc());
     push_copy(&Entry::new(rt.alloc(), b"a", Some(b"b"))?, &mut list)?;
-    assert!(rt; are_prefixed_entries(list.as_slice()));
-    let bytes = prefixed_block_bytes(rt.alloc(), list.as_slice())?;
+    assert!(rt; are_entries(list.as_slice()));
+    let bytes = block_bytes(rt.alloc(), list.as_slice())?;
     assert_eq!(rt; bytes.as_slice(), a_b().as_slice());
     assert_eq!(rt; fnv1a(bytes.as_slice()), 0x587B62AD428B4221);
     assert_eq!(rt; fault_of(bytes.as_slice()), None);
@@ -153,7 +151,7 @@ fn a_b_and_ab() -> [u8; 4096] {
 
 #[test]
 fn what_a_builder_of_prefixes_wrote_is_read(rt: HostRuntime) -> Result<(), Fail> {
-    let mut builder = PrefixedBuilder::new(rt.alloc());
+    let mut builder = BlockBuilder::new(rt.alloc());
     let mut out = Vec::new(rt.alloc());
     assert!(rt; builder.add(b"a", Some(b"b"))?);
     builder.close(&mut out)?;
@@ -163,7 +161,7 @@ fn what_a_builder_of_prefixes_wrote_is_read(rt: HostRuntime) -> Result<(), Fail>
     out.clear();
     builder.close(&mut out)?;
     assert_eq!(rt; out.as_slice(), a_b_and_ab().as_slice());
-    let Ok(block) = AnyBlock::read(out.as_slice()) else {
+    let Ok(block) = Block::read(out.as_slice()) else {
         return Err(Fail::from("no block"));
     };
     assert_eq!(rt; block.find(b"a"), Some(Some(b"b".as_slice())));
@@ -173,11 +171,7 @@ fn what_a_builder_of_prefixes_wrote_is_read(rt: HostRuntime) -> Result<(), Fail>
 }
 
 // Adds an entry of one byte, once more where there was no memory, and then nothing may have changed.
-fn add_again(
-    builder: &mut PrefixedBuilder,
-    key: &[u8],
-    value: Option<&[u8]>,
-) -> Result<bool, Fail> {
+fn add_again(builder: &mut BlockBuilder, key: &[u8], value: Option<&[u8]>) -> Result<bool, Fail> {
     if key.is_empty() || key.len() > 2 || value.is_some_and(|value| value.len() > 1) {
         return Err(Fail::from("out of the limits"));
     }
@@ -194,7 +188,7 @@ fn add_again(
 // One is made to fail from outside, by its number.
 #[test]
 fn each_allocation_of_a_builder_may_fail(rt: HostRuntime) -> Result<(), Fail> {
-    let mut builder = PrefixedBuilder::new(rt.alloc());
+    let mut builder = BlockBuilder::new(rt.alloc());
     let mut out = Vec::new(rt.alloc());
     assert!(rt; add_again(&mut builder, b"a", Some(b"b"))?);
     assert!(rt; add_again(&mut builder, b"ab", None)?);
@@ -211,7 +205,7 @@ fn each_allocation_of_a_builder_may_fail(rt: HostRuntime) -> Result<(), Fail> {
 }
 
 // Adds an entry whose key and value keep the limits.
-fn add(builder: &mut PrefixedBuilder, key: &[u8], value: &[u8]) -> Result<bool, Fail> {
+fn add(builder: &mut BlockBuilder, key: &[u8], value: &[u8]) -> Result<bool, Fail> {
     if key.is_empty() || key.len() > 1_024 || value.len() > 1_048_576 {
         return Err(Fail::from("out of the limits"));
     }
@@ -236,7 +230,7 @@ fn prefixed_blocks_that_are_full_to_the_byte(rt: HostRuntime) -> Result<(), Fail
         (&[(1_024, 1_048_576)], 1, 257),
     ];
     for (entries, taken, pages) in rows {
-        let mut builder = PrefixedBuilder::new(alloc);
+        let mut builder = BlockBuilder::new(alloc);
         let mut count = 0_usize;
         for ((key, value), letter) in entries.iter().copied().zip(FIRST_LETTER..) {
             let key = vec![in alloc; letter; key]?;
@@ -253,7 +247,7 @@ fn prefixed_blocks_that_are_full_to_the_byte(rt: HostRuntime) -> Result<(), Fail
 #[test]
 fn the_largest_block(rt: HostRuntime) -> Result<(), Fail> {
     let alloc = rt.alloc();
-    let mut builder = PrefixedBuilder::new(alloc);
+    let mut builder = BlockBuilder::new(alloc);
     let mut out = Vec::new(alloc);
     let key = vec![in alloc; b'k'; 1_024]?;
     let value = vec![in alloc; b'v'; 1_048_576]?;
@@ -272,7 +266,7 @@ fn the_largest_block(rt: HostRuntime) -> Result<(), Fail> {
 
 #[test]
 fn a_prefixed_block_takes_255_entries(rt: HostRuntime) -> Result<(), Fail> {
-    let mut builder = PrefixedBuilder::new(rt.alloc());
+    let mut builder = BlockBuilder::new(rt.alloc());
     let mut first = 0_u32;
     let mut second = 0_u32;
     for i in 0..300_u32 {
@@ -343,9 +337,9 @@ fn tombstones(alloc: Global, count: u8) -> Result<Vec<Entry>, AllocError> {
 #[test]
 fn seventeen_entries(rt: HostRuntime) -> Result<(), Fail> {
     let list = tombstones(rt.alloc(), 17)?;
-    assert!(rt; are_prefixed_entries(list.as_slice()));
-    assert_eq!(rt; prefixed_block_length(list.as_slice()), 189);
-    let mut bytes = prefixed_block_bytes(rt.alloc(), list.as_slice())?;
+    assert!(rt; are_entries(list.as_slice()));
+    assert_eq!(rt; block_length(list.as_slice()), 189);
+    let mut bytes = block_bytes(rt.alloc(), list.as_slice())?;
     assert!(rt; bytes.len() == 4096);
     assert_eq!(rt; &bytes[8..12], [0x0C, 0, 0xB0, 0].as_slice());
     assert_eq!(rt; fault_of(bytes.as_slice()), None);
@@ -530,11 +524,11 @@ fn changed_bytes_of_drawn_blocks(rt: HostRuntime) -> Result<(), Fail> {
         let keys = drawn_keys(rt.alloc(), &mut numbers, count)?;
         let list = entries_of(rt.alloc(), &mut numbers, keys.as_slice())?;
         let list = list.as_slice();
-        assert!(rt; are_prefixed_entries(list) && are_entries(list));
+        assert!(rt; are_entries(list));
         let mut bytes = if round % 3 == 0 {
-            block_bytes(rt.alloc(), list)?
+            old_block_bytes(rt.alloc(), list)?
         } else {
-            prefixed_block_bytes(rt.alloc(), list)?
+            block_bytes(rt.alloc(), list)?
         };
         assert_eq!(rt;
             fault_of(bytes.as_slice()),

@@ -43,14 +43,15 @@ fn has_all(alloc: Global, made: &mut Made, entries: &[Entry]) -> Result<bool, Fa
 #[test]
 fn blocks_that_are_full_to_the_byte(rt: HostRuntime) -> Result<(), Fail> {
     let alloc = rt.alloc();
-    // The entries, the blocks and their pages. A block has 8 bytes before its entries, an entry 7 before its key.
-    let rows: [(&[Entry], u32, u32); 7] = [
-        (&[(1, 4_080)], 1, 1),
-        (&[(1, 4_081)], 1, 2),
+    // The entries, the blocks and their pages. A block of up to 16 entries has 10 bytes before them, an entry 9 before its key.
+    let rows: [(&[Entry], u32, u32); 8] = [
+        (&[(1, 4_076)], 1, 1),
+        (&[(1, 4_077)], 1, 2),
         (&[(1_024, 65_536)], 1, 17),
-        (&[(1, 100), (1, 3_972)], 1, 1),
-        (&[(1, 100), (1, 3_973)], 2, 2),
-        (&[(1, 4_081), (1, 1)], 2, 3),
+        (&[(1_024, 1_048_576)], 1, 257),
+        (&[(1, 100), (1, 3_966)], 1, 1),
+        (&[(1, 100), (1, 3_967)], 2, 2),
+        (&[(1, 4_077), (1, 1)], 2, 3),
         (&[(1, 1), (1_024, 65_536), (1, 1)], 3, 19),
     ];
     for (entries, blocks, pages) in rows {

@@ -17,7 +17,8 @@ fn a_block_of_two_entries(rt: HostRuntime) -> Result<(), Fail> {
     assert!(rt; are_entries(list.as_slice()));
     let bytes = block_bytes(rt.alloc(), list.as_slice())?;
     let used = [
-        0x1A, 0, 0, 0, 2, 0, 0, 0, 1, 1, 0, 1, 0, 0, 0, 0x61, 0x62, 2, 2, 0, 0, 0, 0, 0, 0x61, 0x62,
+        0x1F, 0, 0, 0, 2, 2, 0, 0, 0x0A, 0, 1, 0, 0, 1, 0, 1, 0, 0, 0, 0x61, 0x62, 2, 1, 0, 1, 0,
+        0, 0, 0, 0, 0x62,
     ];
     assert_eq!(rt; bytes.len(), 4096);
     assert!(rt; bytes.as_slice().starts_with(used.as_slice()));
@@ -31,8 +32,8 @@ fn an_index_of_one_block(rt: HostRuntime) -> Result<(), Fail> {
     assert!(rt; are_entries(list.as_slice()));
     let bytes = index_bytes(rt.alloc(), list.as_slice())?;
     let index = [
-        0x53, 0x52, 0x46, 0x49, 1, 0, 0, 0, 1, 0, 0x61, 1, 0, 0, 0, 0xD2, 0xE6, 0x56, 0xD0, 0x62,
-        0xCC, 0xE3, 0xC5, 2, 0, 0x61, 0x62,
+        0x53, 0x52, 0x46, 0x49, 1, 0, 0, 0, 1, 0, 0x61, 1, 0, 0, 0, 0x4C, 0x37, 0xB1, 0xA5, 0xC5,
+        0xC5, 0x32, 0x31, 2, 0, 0x61, 0x62,
     ];
     assert_eq!(rt; bytes.as_slice(), index.as_slice());
     assert_eq!(rt; index_length(rt.alloc(), list.as_slice())?, 27);

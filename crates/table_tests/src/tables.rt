@@ -1,11 +1,15 @@
 //! Tables that are built, written, opened, asked and walked.
 use crate::made::{
-    BASE, FIRST_PAGE, Made, add, boxed, key_of, new_disk, numbered, one_entry, opened, value_of,
-    written,
+    BASE, FIRST_PAGE, Made, add, boxed, key_of, new_disk, numbered, one_entry, opened, room,
+    row_on, value_of, written,
 };
-use byte_fields::Row;
+use byte_fields::{Row, fnv1a};
+use disk_mem::MemDisk;
 use disk_trait::Disk;
+use entry_list::{Entry, push_copy};
+use plain_blocks::{are_entries, old_block_bytes};
 use plain_filter::PlainFilter;
+use std::alloc::Global;
 use std::process::Abort;
 use std::test::Fail;
 use table_file::{Parts, Table, TableBuilder, fits_device, pages_of};
@@ -18,8 +22,10 @@ fn a_table_of_one_entry(rt: HostRuntime) -> Result<(), Fail> {
         (1, 1, 1)
     );
     assert_eq!(rt; (row.index_len, row.filter_len), (26, 22));
-    let mut begin = [0; 17];
-    let block = [0x11, 0, 0, 0, 1, 0, 0, 0, 1, 1, 0, 1, 0, 0, 0, 0x61, 0x62];
+    let mut begin = [0; 21];
+    let block = [
+        0x15, 0, 0, 0, 1, 2, 0, 0, 0x0A, 0, 1, 0, 0, 1, 0, 1, 0, 0, 0, 0x61, 0x62,
+    ];
     assert!(rt; disk.read(786_432, &mut begin).is_ok());
     assert_eq!(rt; begin, block);
     Ok(())
@@ -33,7 +39,7 @@ fn an_absent_key_beside_a_changed_byte(rt: HostRuntime) -> Result<(), Fail> {
     let mut made = Made::new(rt.alloc(), builder)?;
     assert!(rt; made.gives(b"a", Some(Some(b"b")), 1));
     assert!(rt; made.gives(b"z", None, 0));
-    assert!(rt; made.disk.write(786_452, &[1]).is_ok());
+    assert!(rt; made.disk.write(786_456, &[1]).is_ok());
     assert!(rt; made.gives(b"z", None, 0));
     assert!(rt; !made.gives(b"a", Some(Some(b"b")), 1));
     Ok(())
@@ -129,5 +135,51 @@ fn a_walk_reads_each_block_once(rt: HostRuntime) -> Result<(), Fail> {
     assert!(rt; made.steps_to(&mut cursor, None));
     assert_eq!(rt; made.table.blocks(), 4);
     assert_eq!(rt; made.disk.calls(), before.saturating_add(4));
+    Ok(())
+}
+
+// The first 255 entries as a block of format 1, in one page as in format 2.
+fn old_block(alloc: Global) -> Result<Vec<u8>, Fail> {
+    let mut list = Vec::new(alloc);
+    for i in 0..255 {
+        push_copy(&Entry::new(alloc, &key_of(i), value_of(i))?, &mut list)?;
+    }
+    if !are_entries(list.as_slice()) {
+        return Err(Fail::from("no entries"));
+    }
+    Ok(old_block_bytes(alloc, list.as_slice())?)
+}
+
+// Writes it over the first of two blocks, keeps its sum in the index behind them, and answers the sum of that.
+fn write_old_block(alloc: Global, disk: &mut MemDisk) -> Result<u64, Fail> {
+    let block = old_block(alloc)?;
+    let mut index = [0; 44];
+    let done = disk.write(786_432, &block).is_ok() && disk.read(794_624, &mut index).is_ok();
+    index[16..24].copy_from_slice(&fnv1a(&block).to_le_bytes());
+    if !done || disk.write(794_624, &index).is_err() {
+        return Err(Fail::from("the disk failed"));
+    }
+    Ok(fnv1a(&index))
+}
+
+// The first block is of format 1, the second of format 2.
+#[test]
+fn a_table_of_both_formats(rt: HostRuntime) -> Result<(), Fail> {
+    let alloc = rt.alloc();
+    let mut disk = new_disk(alloc)?;
+    let mut row = row_on(numbered(alloc, 300)?, &mut disk)?;
+    assert_eq!(rt; (row.data_pages, row.index_len), (2, 44));
+    row.index_sum = write_old_block(alloc, &mut disk)?;
+    let Ok(table) = opened(alloc, &mut disk, &row)? else {
+        return Err(Fail::from("not opened"));
+    };
+    let buf = room(alloc)?;
+    let mut made = Made { disk, table, buf };
+    let mut cursor = made.table.cursor(alloc, b"")?;
+    for i in 0..300 {
+        assert!(rt; made.gives(&key_of(i), Some(value_of(i)), 1));
+        assert!(rt; made.steps_to(&mut cursor, Some((&key_of(i), value_of(i)))));
+    }
+    assert!(rt; made.steps_to(&mut cursor, None));
     Ok(())
 }

@@ -2,7 +2,7 @@ use Rattle.std.proofs.Common.{ap, ◌∙◌}
 use Rattle.std.proofs.lemmas.List.{take_rest}
 use Rattle.key_base.specs.ByteOrder.{is_before}
 use Rattle.map_model.specs.SortedMap.{Bytes}
-use Rattle.block_format.proofs.Judged.{rest_above}
+use Rattle.block_format.proofs.OneByte.{rest_above}
 use Rattle.block_format.proofs.judging.is_above.Goals as goal
 
 pub returns-else-shared-eq0 : goal.returns-else-shared-eq0

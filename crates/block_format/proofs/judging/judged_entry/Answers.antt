@@ -7,7 +7,7 @@ use Rattle.block_format.specs.Judging.{shares_wrongly}
 use Rattle.block_format.specs.Reading.{seen}
 use Rattle.block_format.specs.Walking.{format_of}
 use Rattle.block_format.specs.declared.fault.BlockFault.{BlockFault}
-use Rattle.block_format.proofs.Judged.{apart_after, few_shared}
+use Rattle.block_format.proofs.OneByte.{apart_after, few_shared}
 use Rattle.block_format.proofs.JudgedEntries.{entry_is_cut, head_is_cut, is_not_above, keeps_rules, kind_is_wrong, limits_are_passed, out_of_limits, shares_another_number, wrong_kind}
 use Rattle.block_format.proofs.judging.judged_entry.Goals as goal
 

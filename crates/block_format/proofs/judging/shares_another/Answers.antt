@@ -3,7 +3,7 @@ use Rattle.std.specs.Prelude.{◌==◌, not}
 use Rattle.std.proofs.lemmas.List.{take_rest}
 use Rattle.key_base.specs.Prefixes.{alike}
 use Rattle.map_model.specs.SortedMap.{Bytes}
-use Rattle.block_format.proofs.Judged.{rest_alike, unequal}
+use Rattle.block_format.proofs.OneByte.{rest_alike, unequal}
 use Rattle.block_format.proofs.judging.shares_another.Goals as goal
 
 pub returns : goal.returns

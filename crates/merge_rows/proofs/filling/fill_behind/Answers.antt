@@ -6,14 +6,14 @@ use Rattle.disk_trait.proofs.Calls.{reads_then}
 use Rattle.block_model.specs.Places.{byte_of_page}
 use Rattle.merge_rows.specs.Merges.{left_above}
 use Rattle.merge_rows.specs.Reads.{IsFewer, IsRead, blocks_left, wanted_by}
-use Rattle.merge_rows.specs.Steps.{AreCaughtUp, AreNumbersIn, AreSoundWalks}
+use Rattle.merge_rows.specs.Steps.{AreCaughtUp, AreSoundWalks, AreWalksIn}
 use Rattle.table_file.specs.Search.{IsGetFault, page_at}
 use Rattle.merge_rows.proofs.Fills.{cause_since, err_then, ok_then, on_ok_then}
 use Rattle.merge_rows.proofs.Stays.{lengths_are}
 use Rattle.merge_rows.proofs.filling.fill_behind.Goals as goal
 
 pub fill_first-requires : goal.fill_first-requires
-fill_first-requires g c = subst (AreNumbersIn c.args.tables.now.tables) (sym c.pass_row.ensures.passed.numbers_are) c.requires.known
+fill_first-requires g c = subst (AreWalksIn c.args.tables.now.tables) (sym c.pass_row.ensures.passed.stands_are) c.requires.known
 
 pub returns : goal.returns
 returns g c =
@@ -31,6 +31,7 @@ returns g c =
     let fills = c.fill_first.ensures in
     record {
       numbers_are = fills.numbers_are ∙ passed.numbers_are;
+      stands_are = fills.stands_are ∙ passed.stands_are;
       same = λ t. subst (λ (h : Image). map (left_above floor tables h) new ≡ map (left_above floor tables h) mid) still.held (fills.same t) ∙ passed.same t;
       ready = λ t. subst (λ (h : Image). IfOk result (λ read. read ≡ false → AreCaughtUp floor tables h new)) still.held (fills.ready t);
       clear = fills.clear;

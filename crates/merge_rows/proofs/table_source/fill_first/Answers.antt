@@ -1,4 +1,4 @@
-use Rattle.std.proofs.Common.{◌≡◌, ◌∙◌, ◌+◌, ◌<◌, ℕ, suc, Bool, true, false, length, get_or, slice_set, sym, ap, subst, arith}
+use Rattle.std.proofs.Common.{◌≡◌, ◌∙◌, ◌+◌, ◌<◌, ℕ, suc, Bool, true, false, length, get_or, slice_set, sym, ap, ap₂, subst, arith}
 use Rattle.std.specs.Prelude.{Contains, IsTrue, List, Ok}
 use Rattle.std.proofs.lemmas.Bool.{false≢true}
 use Rattle.disk_trait.specs.Image.{Image}
@@ -7,20 +7,29 @@ use Rattle.disk_trait.proofs.Calls.{reads_more, reads_then}
 use Rattle.block_model.specs.Places.{byte_of_page}
 use Rattle.merge_rows.specs.Merges.{blocks_in, left_above, numbered, walk_left}
 use Rattle.merge_rows.specs.Reads.{IsFewer, blocks_left_in, next_block_of, wanted_block_of}
-use Rattle.merge_rows.specs.Steps.{AreNumbersIn, IsCaughtUp, IsSoundWalk, number_of_walk, numbers}
+use Rattle.merge_rows.specs.Steps.{AreWalksIn, IsCaughtUp, IsSoundWalk, number_of_walk, stand_of_walk, stands}
 use Rattle.table_file.specs.Search.{IsGetFault, page_at}
 use Rattle.merge_rows.proofs.Fills.{cause_since}
-use Rattle.merge_rows.proofs.FirstFills.{IsSoundHere, Went, all_clear, all_ready, fewer_err, fewer_none, fewer_one, none_wanted, number_among, number_here, read_none, read_one, set_left, set_next, set_numbers, set_same, set_sound, set_wanted, sound_here, wanted_here, went_by, went_length, went_map, went_on, went_sound, went_sum, went_wanted}
+use Rattle.merge_rows.proofs.FirstFills.{IsSoundHere, Went, all_clear, all_ready, fewer_err, fewer_none, fewer_one, none_wanted, number_among, number_here, read_none, read_one, set_left, set_next, set_numbers, set_same, set_sound, set_stands, set_wanted, sound_here, wanted_here, went_by, went_length, went_map, went_on, went_sound, went_sum, went_wanted}
 use Rattle.merge_rows.proofs.table_source.fill_first.Goals as goal
 
-pub fill-requires : goal.fill-requires
-fill-requires g c =
+pub fill-requires-clause-there : goal.fill-requires-clause-there
+fill-requires-clause-there g c =
     let i = c.loop-i.i in
     let now = c.loop-i.walks in
     let tables = c.args.tables.now.tables in
     let lt : i < length now = omega (arith, c.loop-i-test.true, c.loop-i.auto.walks) in
-    let same : numbers now ≡ numbers c.args.walks.now = went_map (IsTrue g.D.Disk.tells) c.args.floor.now tables (g.D.Disk.world c.args.disk.now).seen.held number_of_walk (λ w y p. p.number) i c.args.walks.now now c.loop-i.invariant.went in
-    number_here tables now i c.index-walks-i-in-loop-i.result lt (subst (AreNumbersIn tables) (sym same) c.requires)
+    let same : stands now ≡ stands c.args.walks.now = went_map (IsTrue g.D.Disk.tells) c.args.floor.now tables (g.D.Disk.world c.args.disk.now).seen.held stand_of_walk (λ w y p. ap₂ (λ (n r : ℕ). (n, r)) p.number p.room) i c.args.walks.now now c.loop-i.invariant.went in
+    (number_here tables now i c.index-walks-i-in-loop-i.result lt (subst (AreWalksIn tables) (sym same) c.requires)).0
+
+pub fill-requires-clause-room : goal.fill-requires-clause-room
+fill-requires-clause-room g c =
+    let i = c.loop-i.i in
+    let now = c.loop-i.walks in
+    let tables = c.args.tables.now.tables in
+    let lt : i < length now = omega (arith, c.loop-i-test.true, c.loop-i.auto.walks) in
+    let same : stands now ≡ stands c.args.walks.now = went_map (IsTrue g.D.Disk.tells) c.args.floor.now tables (g.D.Disk.world c.args.disk.now).seen.held stand_of_walk (λ w y p. ap₂ (λ (n r : ℕ). (n, r)) p.number p.room) i c.args.walks.now now c.loop-i.invariant.went in
+    (number_here tables now i c.index-walks-i-in-loop-i.result lt (subst (AreWalksIn tables) (sym same) c.requires)).1
 
 pub loop-i-preserved-then-leads : goal.loop-i-preserved-then-leads
 loop-i-preserved-then-leads g c =
@@ -58,6 +67,7 @@ loop-i-preserved g c =
     record {
       went = subst (λ (n : ℕ). Went tells floor tables image n old (slice_set now i x)) one (went_on tells floor tables image i old now x d lt went (record {
         number = c.fill.ensures.number;
+        room = c.fill.ensures.room;
         same = λ t. subst (λ (h : Image). left_above floor tables h x ≡ left_above floor tables h (get_or now i d)) held (c.fill.ensures.same t);
         ready = λ t. subst (λ (h : Image). IsCaughtUp floor x.walk.now (walk_left tables h x)) held (c.in-Ok-false.ensures.ready t c.in-Ok-false.field-0-test);
         clear = c.in-Ok-false.ensures.clear c.in-Ok-false.field-0-test;
@@ -96,6 +106,7 @@ returns-in-Ok-true g c =
     (subst (λ (h : Image). IsSoundWalk floor (get_or now i d).walk (blocks_in (numbered tables (get_or now i d).number) h) → IsSoundWalk floor x.walk (blocks_in (numbered tables (get_or now i d).number) h)) held (c.fill.ensures.sound t) s) in
     record {
       numbers_are = set_numbers tells floor tables image i old now d x went lt c.fill.ensures.number;
+      stands_are = set_stands tells floor tables image i old now d x went lt c.fill.ensures.number c.fill.ensures.room;
       same = λ t. set_same tells floor tables image i old now d x went lt t (same t);
       ready = λ t none. absurd (false≢true (sym none));
       clear = λ none. absurd (false≢true (sym none));
@@ -148,6 +159,7 @@ returns-in-Err g c =
     subst (λ (which : List ℕ). Contains which (get_or now i d).number) (went_map tells floor tables image number_of_walk (λ w y p. p.number) i old now went) (number_among now i d lt) in
     record {
       numbers_are = set_numbers tells floor tables image i old now d x went lt c.fill.ensures.number;
+      stands_are = set_stands tells floor tables image i old now d x went lt c.fill.ensures.number c.fill.ensures.room;
       same = λ t. set_same tells floor tables image i old now d x went lt t (same t);
       ready = λ t. tt;
       clear = tt;
@@ -186,6 +198,7 @@ returns g c =
     let went = c.loop-i.invariant.went in
     record {
       numbers_are = went_map tells floor tables image number_of_walk (λ w y p. p.number) i old now went;
+      stands_are = went_map tells floor tables image stand_of_walk (λ w y p. ap₂ (λ (n r : ℕ). (n, r)) p.number p.room) i old now went;
       same = λ t. went_map tells floor tables image (left_above floor tables image) (λ w y p. p.same t) i old now went;
       ready = λ t none. all_ready tells floor tables image i old now c.loop-i-test.false t went;
       clear = λ none. all_clear tells floor tables image i old now c.loop-i-test.false went;

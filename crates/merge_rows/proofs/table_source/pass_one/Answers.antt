@@ -2,7 +2,7 @@ use Rattle.std.proofs.Common.{◌≡◌, ◌-◌, ℕ, sym, ap₂, subst, arith,
 use Rattle.std.proofs.lemmas.List.Sums.{sum_by-set}
 use Rattle.merge_rows.specs.Merges.{blocks_in, left_above, numbered, row_count}
 use Rattle.merge_rows.specs.Reads.{blocks_left_in, next_block_of, wanted_block_of}
-use Rattle.merge_rows.specs.Steps.{IsSoundWalk, number_of_walk}
+use Rattle.merge_rows.specs.Steps.{IsSoundWalk, number_of_walk, stand_of_walk}
 use Rattle.merge_rows.proofs.FirstFills.{IsSoundHere, all_here, all_set, map_set, number_here}
 use Rattle.merge_rows.proofs.table_source.pass_one.Goals as goal
 
@@ -22,6 +22,7 @@ returns-clause-passed g c =
     let few : blocks_left_in tables x ≡ blocks_left_in tables (get_or old i d) = ap₂ (λ (n b : ℕ). row_count (numbered tables n) - b) c.pass.ensures.number c.pass.ensures.block in
     record {
       numbers_are = map_set number_of_walk old i x d lt c.pass.ensures.number;
+      stands_are = map_set stand_of_walk old i x d lt (ap₂ (λ (n r : ℕ). (n, r)) c.pass.ensures.number c.pass.ensures.room);
       same = λ t. map_set (left_above floor tables image) old i x d lt (c.pass.ensures.same t);
       sound = λ t s. all_set (IsSoundHere floor tables image) old i x d lt
           (λ u. subst (λ (n : ℕ). IsSoundWalk floor x.walk (blocks_in (numbered tables n) image)) (sym c.pass.ensures.number) (c.pass.ensures.sound t u)) s;

@@ -1,5 +1,6 @@
 use Rattle.std.proofs.Common.{List, length, ap, subst, sym, ◌∙◌}
 use Rattle.std.specs.Prelude.{vec_items}
+use Rattle.std.proofs.lemmas.Result.{IfOk-weaker}
 use Rattle.entry_model.specs.Entries.{Entry}
 use Rattle.block_model.specs.Block.{AreEntries}
 use Rattle.block_model.specs.Pages.{has_room}
@@ -16,5 +17,6 @@ pub returns : goal.returns
 returns c =
     let some = positive (length c.args.blocks.now) c.if-is_empty.ensures in
     let block = c.index-blocks-blocks.result in
-    c.has_room.ensures ∙ ap (λ (b : List Entry). has_room b c.args.entry.now) (c.as_slice.ensures.value ∙ ap vec_items c.index-blocks-blocks.is)
-    ∙ seen_last vec_items c.args.blocks.now block c.args.entry.now some
+    IfOk-weaker c.has_room.result _ _ (λ room is. is ∙ ap (λ (b : List Entry). has_room b c.args.entry.now) (c.as_slice.ensures.value ∙ ap vec_items c.index-blocks-blocks.is)
+    ∙ seen_last vec_items c.args.blocks.now block c.args.entry.now some)
+    c.has_room.ensures

@@ -1,5 +1,6 @@
 use Rattle.std.proofs.Common.{◌≡◌, [], ◌∷◌, refl, arith}
 use Rattle.std.specs.Prelude.{◌++◌, codes}
+use Rattle.block_model.specs.Bodies.{entries_bytes}
 use Rattle.block_model.specs.Pages.{block_length, block_pages, blocks_of, data_pages, index_length, pages_for}
 use Rattle.hex.specs.Hex.{decode_pairs}
 use Rattle.entry_model.specs.Entries.{filled, gap}
@@ -15,11 +16,11 @@ use Rattle.state_model.specs.Tends.{Idle, idle}
 use Rattle.state_model.proofs.examples.lines_that_were_answered.Goals as goal
 
 pub returns-clause-a_put_goes_on : goal.returns-clause-a_put_goes_on
-unfolding pages_for block_length block_pages blocks_of data_pages index_length filled gap last_epoch decode_pairs
+unfolding pages_for entries_bytes block_length block_pages blocks_of data_pages index_length filled gap last_epoch decode_pairs
 returns-clause-a_put_goes_on c = (Done, [], (played one_byte small_store (Put (key 0x61) (0x62 ∷ []) ∷ [])).1, (played one_byte small_store (Put (key 0x61) (0x62 ∷ []) ∷ [])).1, refl, answers, refl, tt, (Idle, idle refl refl, refl), (refl, refl))
 
 pub returns-clause-and_a_quit_is_answered : goal.returns-clause-and_a_quit_is_answered
-unfolding pages_for block_length block_pages blocks_of data_pages index_length filled gap last_epoch decode_pairs
+unfolding pages_for entries_bytes block_length block_pages blocks_of data_pages index_length filled gap last_epoch decode_pairs
 returns-clause-and_a_quit_is_answered c = answered (codes "put 61 62" ∷ []) (codes "quit") (codes "ok" ++ 10 ∷ codes "bye" ++ 10 ∷ []) Bye (played one_byte small_store (Put (key 0x61) (0x62 ∷ []) ∷ [])).1 (record {
   early = codes "ok" ++ 10 ∷ [];
   before = (played one_byte small_store (Put (key 0x61) (0x62 ∷ []) ∷ [])).1;
@@ -30,7 +31,7 @@ returns-clause-and_a_quit_is_answered c = answered (codes "put 61 62" ∷ []) (c
 })
 
 pub returns-clause-a_fault_answers_in_any_state : goal.returns-clause-a_fault_answers_in_any_state
-unfolding pages_for block_length block_pages blocks_of data_pages index_length filled gap last_epoch decode_pairs
+unfolding pages_for entries_bytes block_length block_pages blocks_of data_pages index_length filled gap last_epoch decode_pairs
 returns-clause-a_fault_answers_in_any_state c = answered [] (codes "get 61") (codes "device" ++ 10 ∷ []) Device (played one_byte small_store two_values).1 (record {
   early = [];
   before = (played one_byte small_store two_values).1;

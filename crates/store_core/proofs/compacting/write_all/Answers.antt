@@ -134,7 +134,7 @@ loop-job-preserved g c =
     let on = c.loop-job.invariant.on in
     let within = subst (λ (said : Sliced). MayMakeAsMany old new said) c.in-Working.is c.in_ok-slice.ensures.slices.few in
     record {
-      on = compacting_more spelling cutoff m.version opened old new free now w x on c.slice.ensures.slices.numbers_are c.slice.ensures.slices.same.0 c.slice.ensures.slices.moves within (c.in_ok-slice.ensures.slices.rows on.written);
+      on = compacting_more spelling cutoff m.version opened old new free now w x on c.slice.ensures.slices.stands_are c.slice.ensures.slices.same.0 c.slice.ensures.slices.moves within (c.in_ok-slice.ensures.slices.rows on.written);
       going = λ s tells held.
           let going = c.loop-job.invariant.going s tells held in
           let under = now_at _ a w going.meanwhile w.seen.held (g.met.D.Disk.current c.loop-job.disk tells) in
@@ -179,7 +179,7 @@ returns-in-Ready-clause-compact g c =
     let within = subst (λ (said : Sliced). MayMakeAsMany c.loop-job.job c.slice.new.self said) c.in-Ready.is c.in_ok-slice.ensures.slices.few in
     subst (λ (made : List Opened). AreCompact c.args.version.now.version (rows_of made)) (sym c.into_tables.ensures)
     (compacted_rows g.F.RangeFilter.spelling g.F.RangeFilter.built_cutoff c.args.version.now.version c.args.tables.now.tables c.loop-job.job c.slice.new.self c.loop-job.extents c.slice.new.extents
-    (g.D.Disk.world c.loop-job.disk) (g.D.Disk.world c.slice.new.disk) on c.slice.ensures.slices.numbers_are c.slice.ensures.slices.same.0 c.slice.ensures.slices.moves within (c.in_ok-slice.ensures.slices.rows on.written))
+    (g.D.Disk.world c.loop-job.disk) (g.D.Disk.world c.slice.new.disk) on c.slice.ensures.slices.stands_are c.slice.ensures.slices.same.0 c.slice.ensures.slices.moves within (c.in_ok-slice.ensures.slices.rows on.written))
 
 pub returns-in-Ready-clause-moves : goal.returns-in-Ready-clause-moves
 returns-in-Ready-clause-moves g c =

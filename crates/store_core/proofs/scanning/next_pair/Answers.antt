@@ -8,7 +8,7 @@ use Rattle.key_base.specs.Limits.{max_key_bytes}
 use Rattle.merge_rows.proofs.Rank.{height_ends, height_rises}
 use Rattle.merge_rows.proofs.Steps.{none_of}
 use Rattle.merge_rows.specs.Reads.{SomeBlock}
-use Rattle.merge_rows.specs.Steps.{AreNumbersIn, IsSoundMerge, RowPasses, numbers}
+use Rattle.merge_rows.specs.Steps.{AreWalksIn, IsSoundMerge, RowPasses, numbers}
 use Rattle.store_core.proofs.ScanCauses.{as_many_walks, block_cause, fault_at, kept_at, none_value, paced_at, reads_on, pair_some, some_mapped, step_at}
 use Rattle.store_core.proofs.ScanSteps.{all_bounded, none_below, none_left, one_on, pair_given, set_out, stay_then, still_pairs}
 use Rattle.store_core.specs.Scans.{pair_in}
@@ -24,7 +24,7 @@ loop-rows-init g c =
     }
 
 pub advance-requires : goal.advance-requires
-advance-requires g c = subst (AreNumbersIn c.args.tables.now.tables) (sym c.loop-rows.invariant.way.kept.numbers_are) c.requires.there
+advance-requires g c = subst (AreWalksIn c.args.tables.now.tables) (sym c.loop-rows.invariant.way.kept.stands_are) c.requires.there
 
 -- ---- a fault
 

@@ -8,7 +8,7 @@ use Rattle.table_file.proofs.builder.close_block.Goals as goal
 
 pub overflow_cast-pages : goal.overflow_cast-pages
 overflow_cast-pages c =
-    let few : c.pages-pages.result ≤ 17 = omega (arith, c.pages-pages.ensures, few_pages c.args.«open».now c.requires.sound) in
+    let few : c.pages-pages.result ≤ 257 = omega (arith, c.pages-pages.ensures, few_pages c.args.«open».now c.requires.sound) in
     record { fits = omega (arith, few) }
 
 pub returns-clause-stand : goal.returns-clause-stand

@@ -13,5 +13,5 @@ invariant-loop-i l = record {
   read : rows_in l.count l.bytes ≡ rows_seen l.rows.items ++ rows_in (l.count - l.i) (drop l.at l.bytes);
   pages : l.first ≡ row_pages (rows_seen l.rows.items);
   stand : StandFrom 0 l.rows.items;
-  few : l.first ≤ 17 * l.i;
+  few : l.first ≤ 257 * l.i;
 }

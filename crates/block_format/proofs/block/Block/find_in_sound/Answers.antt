@@ -1,28 +1,29 @@
-use Rattle.std.proofs.Common.{◌≡◌, ◌∙◌, ℕ, ap₂}
+use Rattle.std.proofs.Common.{◌≡◌}
 use Rattle.std.specs.Prelude.{Option, Some, None}
 use Rattle.byte_fields.specs.Faults.{Fault}
-use Rattle.map_model.specs.SortedMap.{Bytes}
-use Rattle.entry_model.specs.Newest.{lookup}
-use Rattle.block_model.specs.BlockReading.{block_in, entries_in}
-use Rattle.block_model.specs.Order.{is_any}
-use Rattle.block_format.proofs.Standing.{all_stand}
-use Rattle.block_format.proofs.Walks.{entries_none, head_none, part_is}
+use Rattle.block_model.specs.BlockReading.{block_fault_by}
+use Rattle.block_model.proofs.Refusals.{neither}
 use Rattle.block_format.proofs.block.Block.find_in_sound.Goals as goal
 
-pub find_in-requires : goal.find_in-requires
-find_in-requires c =
-    let bytes = c.args.bytes.now in
-    all_stand c.in-Ok.count 8 is_any _ (entries_none bytes c.in-Ok.used c.in-Ok.count c.in-Ok.ensures.some c.in-Ok.ensures.used c.in-Ok.ensures.count c.requires)
-
-pub returns-in-Ok : goal.returns-in-Ok
-unfolding block_in
-returns-in-Ok c =
-    let bytes = c.args.bytes.now in
-    c.find_in.ensures ∙ ap₂ (λ (n : ℕ) (l : Bytes). lookup (entries_in n l) c.args.key.now) c.in-Ok.ensures.count (part_is bytes c.in-Ok.used c.in-Ok.ensures.some c.in-Ok.ensures.used)
+pub find_any-requires : goal.find_any-requires
+find_any-requires c =
+    let h = c.in-Ok.ensures in
+    record {
+      whole = c.requires;
+      format = h.format;
+      used = h.used;
+      count = h.count;
+      from = h.from;
+      many = h.many;
+      within = h.within.0;
+      inside = h.within.1;
+    }
 
 never : {P : Type 0} (f : Option Fault) (x : Fault) → f ≡ Some x → f ≡ None → P
 never None x some none = absurd cc
 never (Some y) x some none = absurd cc
 
+-- a header without a fault is not refused
 pub returns-in-Err : goal.returns-in-Err
-returns-in-Err c = never _ _ c.in-Err.ensures.broken (head_none c.args.bytes.now c.requires)
+unfolding block_fault_by
+returns-in-Err c = never _ _ c.in-Err.ensures.broken (neither _ _ c.requires).0

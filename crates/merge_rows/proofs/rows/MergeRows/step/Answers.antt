@@ -6,7 +6,7 @@ use Rattle.entry_model.specs.Entries.{Entry}
 use Rattle.merge_rows.specs.Rows.{KeyFloor}
 use Rattle.merge_rows.specs.Merges.{TableWalk, left_above, merged_left}
 use Rattle.merge_rows.specs.Reads.{blocks_left}
-use Rattle.merge_rows.specs.Steps.{AreCaughtUp, AreHeadsClear, HandsOutRow, IsCaughtUp, RowPasses, numbers}
+use Rattle.merge_rows.specs.Steps.{AreCaughtUp, AreHeadsClear, HandsOutRow, IsCaughtUp, RowPasses, numbers, stands}
 use Rattle.table_file.specs.Walks.{first_of}
 use Rattle.merge_rows.proofs.RowSteps.{chosen_least, chosen_passes, step_rows, step_sound}
 use Rattle.merge_rows.proofs.rows.MergeRows.step.Goals as goal
@@ -25,6 +25,7 @@ returns-clause-kept g c =
     let passes : RowPasses new.now mid.floor new.floor = chosen_passes mid.floor new.floor mid.memory mid.walks new.now c.choose.ensures.chosen caught clear in
     record {
       numbers_are = ap numbers c.choose.ensures.walks ∙ stays.sources.numbers_are;
+      stands_are = ap stands c.choose.ensures.walks ∙ stays.sources.stands_are;
       drops_are = c.choose.ensures.drops ∙ stays.sources.drops_are;
       sound = λ t s. step_sound tables image mid new c.choose.ensures.memory c.choose.ensures.walks c.choose.ensures.chosen
           (subst (λ (f : KeyFloor). AreCaughtUp f tables image mid.walks) floor_is (c.in_ok-catch_up.ensures.ready t)) passes (stays.sources.sound t s);

@@ -1,6 +1,6 @@
 use Rattle.std.proofs.Common.{rules, ◌≡◌, ◌∙◌, ◌≤◌, ◌+◌, refl, sym, ap, subst, arith}
 use Rattle.std.specs.Prelude.{Some}
-use Rattle.merge_rows.specs.Steps.{AreNumbersIn, numbers}
+use Rattle.merge_rows.specs.Steps.{AreWalksIn, numbers}
 use Rattle.store_core.proofs.ScanCauses.{no_damage, not_ended, said_of, told_as, told_block, told_scan, told_step, told_walk}
 use Rattle.store_core.proofs.ScanSteps.{shows_bounded, shows_ended, shows_on, shows_still}
 use Rattle.store_core.specs.Faults.{of_table_fault}
@@ -15,7 +15,7 @@ returns-then-has_ended-clause-pairs g c m so shows =
 
 pub invariant_of-self-in_err-found : goal.invariant_of-self-in_err-found
 invariant_of-self-in_err-found g c =
-    (subst (AreNumbersIn c.self.inside.tables.now.tables) (sym c.next_pair.ensures.kept.numbers_are) c.self.invariant.0, c.next_pair.ensures.kept.drops_are ∙ c.self.invariant.1)
+    (subst (AreWalksIn c.self.inside.tables.now.tables) (sym c.next_pair.ensures.kept.stands_are) c.self.invariant.0, c.next_pair.ensures.kept.drops_are ∙ c.self.invariant.1)
 
 pub returns-in_err-found-clause-stays : goal.returns-in_err-found-clause-stays
 returns-in_err-found-clause-stays g c m so shows =
@@ -72,7 +72,7 @@ returns-in_err-found-clause-refused g c =
 
 pub invariant_of-self-2 : goal.invariant_of-self-2
 invariant_of-self-2 g c =
-    (subst (AreNumbersIn c.self.inside.tables.now.tables) (sym c.next_pair.ensures.kept.numbers_are) c.self.invariant.0, c.next_pair.ensures.kept.drops_are ∙ c.self.invariant.1)
+    (subst (AreWalksIn c.self.inside.tables.now.tables) (sym c.next_pair.ensures.kept.stands_are) c.self.invariant.0, c.next_pair.ensures.kept.drops_are ∙ c.self.invariant.1)
 
 pub returns-clause-pairs : goal.returns-clause-pairs
 returns-clause-pairs g c m so shows =

@@ -13,6 +13,7 @@ use Rattle.manifest.specs.declared.fault.ManifestFault.{ManifestFault}
 use Rattle.manifest.specs.declared.fault.ManifestFault.TheVariants as fault
 use Rattle.manifest_model.specs.Installs.{IsInstalled, IsOldOrNew}
 use Rattle.manifest_model.specs.Laws.{IsVersion, RowFits}
+use Rattle.merge_rows.proofs.Begins.{numbers_known}
 use Rattle.merge_rows.specs.Steps.{numbers}
 use Rattle.table_file.specs.Opened.{Opened}
 use Rattle.table_model.specs.Tables.{filter_bytes_of}
@@ -69,7 +70,7 @@ replace_tables-requires-clause-room g c =
     let which = numbers c.args.job.merge.walks in
     let tables = c.self.inside.tables.tables in
     let run = subst (λ (k : StoreValue). IsRun k.manifest.version k.tables c.args.job) (sym c.self.view_is) c.requires.run in
-    room_for which tables c.reserve.new.self.tables (length c.args.job.made) (length c.tables.result.now) c.reserve.new.self.room c.reserve.ensures.tables (others_few which tables (pairs_of _ which run.apart) run.numbers) (ap length c.tables.ensures) c.in_ok-reserve.ensures.room
+    room_for which tables c.reserve.new.self.tables (length c.args.job.made) (length c.tables.result.now) c.reserve.new.self.room c.reserve.ensures.tables (others_few which tables (pairs_of _ which run.apart) (numbers_known _ _ run.numbers)) (ap length c.tables.ensures) c.in_ok-reserve.ensures.room
 
 pub installed-requires-clause-epoch : goal.installed-requires-clause-epoch
 installed-requires-clause-epoch g c =

@@ -36,7 +36,7 @@ returns-clause-run g c =
     let level = c.slice.ensures.slices.level.1 in
     let same = c.slice.ensures.slices.same.0 in
     slices_run g.F.RangeFilter.spelling g.F.RangeFilter.built_cutoff v c.args.self.now.tables old c.slice.new.self free c.slice.new.extents c.requires.run pages extents
-    (g.D.Disk.world c.args.disk.now) (g.D.Disk.world c.slice.new.disk) c.slice.ensures.slices.moves c.slice.result (omega (arith, level, same)) c.requires.more c.slice.ensures.slices.numbers_are
+    (g.D.Disk.world c.args.disk.now) (g.D.Disk.world c.slice.new.disk) c.slice.ensures.slices.moves c.slice.result (omega (arith, level, same)) c.requires.more c.slice.ensures.slices.numbers_are c.slice.ensures.slices.stands_are
     (c.slice.ensures.slices.rows c.requires.run.written) c.slice.ensures.slices.few
 
 pub returns-clause-more : goal.returns-clause-more

@@ -1,6 +1,7 @@
 use Rattle.std.proofs.Common.{rules, ◌≡◌, ◌∙◌, ◌++◌, ◌∷◌, [], Bool, List, cond, false, true, length, sym, ap, subst, arith, append_assoc, length-append}
 use Rattle.std.specs.Option.{option_map}
 use Rattle.entry_model.specs.Entries.{Entry, entry_of, keys_of}
+use Rattle.block_model.specs.Formats.{Prefixed}
 use Rattle.block_model.specs.Block.{IsBlock, block_bytes}
 use Rattle.block_model.specs.Laws.{joined}
 use Rattle.block_model.specs.Order.{Follow, is_any}
@@ -24,7 +25,7 @@ close_block-requires-clause-sound c =
     let e = entry_of c.args.key.now (option_map (λ v. v.now) c.args.value) in
     let unadded : c.add.new.self ≡ t.«open» = c.in-Ok-false.ensures.added ∙ ap (λ (b : Bool). cond b (t.«open» ++ e ∷ []) t.«open») c.in-Ok-false.field-0-test in
     let full : takes t.«open» e ≡ false = sym c.in-Ok-false.ensures.room ∙ c.in-Ok-false.field-0-test in
-    subst IsBlock (sym unadded) (open_is _ t.blocks.items (rows_seen t.rows.items) t.«open» t.keys c.self.invariant.2 (some_open t.«open» e full))
+    subst (IsBlock Prefixed) (sym unadded) (open_is _ t.blocks.items (rows_seen t.rows.items) t.«open» t.keys c.self.invariant.2 (some_open t.«open» e full))
 
 pub close_block-requires-clause-last : goal.close_block-requires-clause-last
 close_block-requires-clause-last c =

@@ -36,6 +36,7 @@ returns-in_err-advance g c =
         refl,
         (λ _. tt),
         (
+          c.advance.ensures.room,
           (λ tells. no_ok c.from_residual.result _ failed),
           no_value c.from_residual.result _ failed,
           (λ tells. at_err c.from_residual.result _ (c.in_err-advance.ensures.stays tells)),

@@ -1,10 +1,16 @@
-use Rattle.table_file.proofs.Helds.{empty_view, no_entries, stands_nowhere}
+use Rattle.std.proofs.Common.{refl, arith}
+use Rattle.block_format.specs.Walking.{at_hand}
+use Rattle.block_model.specs.Formats.{entries_by}
+use Rattle.table_file.proofs.Helds.{no_entries, stands_nowhere}
 use Rattle.table_file.proofs.held_block.HeldBlock.new.Goals as goal
 
 pub invariant_of-result : goal.invariant_of-result
+unfolding at_hand
 invariant_of-result c =
-    let items = c.in_ok-with_capacity.field-0.items in
-    (c.in_ok-with_capacity.ensures.capacity, stands_nowhere items, no_entries items, stands_nowhere items, no_entries items)
+    let items = c.in_ok-bytes.bytes.items in
+    let key = c.in_ok-key.key.items in
+    (omega (arith, c.in_ok-bytes.ensures.capacity), omega (arith, c.in_ok-key.ensures.len), stands_nowhere key items, tt, tt, no_entries key items)
 
 pub returns : goal.returns
-returns c = empty_view c.in_ok-with_capacity.field-0.items
+unfolding at_hand entries_by
+returns c = refl

@@ -1,4 +1,4 @@
-use Rattle.std.proofs.Common.{◌≡◌, ◌∙◌, drop, sym, ap, arith}
+use Rattle.std.proofs.Common.{◌≡◌, ◌∙◌, List, drop, sym, ap, arith}
 use Rattle.std.specs.Prelude.{None}
 use Rattle.std.proofs.lemmas.List.{take_rest}
 use Rattle.byte_fields.specs.Spelling.{IsBytes}
@@ -7,6 +7,8 @@ use Rattle.block_model.specs.IndexReading.{head_width_in, rows_fault, rows_in}
 use Rattle.block_model.specs.Order.{is_from}
 use Rattle.block_model.specs.Index.{row_pages}
 use Rattle.table_file.specs.BlockRows.{rows_seen}
+use Rattle.table_file.specs.Walks.{most_block_pages}
+use Rattle.table_file.specs.declared.block_row.BlockRow.{BlockRow}
 use Rattle.table_file.proofs.IndexWalks.{sound}
 use Rattle.table_file.proofs.index.BlockIndex.read.Goals as goal
 
@@ -29,4 +31,5 @@ invariant_of-result c =
       sound c.args.pages bytes head.count head.width c.in_ok-least.least.items (rows_seen c.in_ok-rows.rows.items) c.in_ok-head.ensures.count c.in_ok-head.ensures.width (least ∙ c.in_ok-head.ensures.least)
           read c.in_ok-head.ensures.whole kept is_bytes all,
       c.in_ok-rows.ensures.stand,
+      c.most_pages-most.ensures ∙ ap (λ (rs : List BlockRow). most_block_pages (rows_seen rs)) c.as_slice.ensures.value,
     )

@@ -1,9 +1,0 @@
-use Rattle.std.proofs.Common.{refl, arith}
-use Rattle.block_format.proofs.PrefixedBuilders.{holds_none, none_in}
-use Rattle.block_format.proofs.prefixed_builder.PrefixedBuilder.clear.Goals as goal
-
-pub invariant_of-self : goal.invariant_of-self
-invariant_of-self c = (omega arith, holds_none c.clear.new.self.items _ _ c.clear.ensures.items refl)
-
-pub returns : goal.returns
-returns c = none_in c.clear.new.self.items
