@@ -4,7 +4,7 @@
 //! whole keys and no list. [`Block::read`] tests each rule of the format in one pass and takes no memory: it answers the block,
 //! seen as its list of entries, exactly where the bytes keep all rules, else the first rule that they break and the place.
 //! [`BlockBuilder`] keeps the entries of the next block as they will be written, and appends it in whole pages, always in the
-//! first of these two formats.
+//! format that shares.
 //!
 //! Bytes that were read just now are also to be summed: [`Block::read_sum_and_find`] does it in the pass that judges them.
 //! Whoever keeps the bytes and cannot keep a cursor that borrows them asks [`read_sum_and_walk`] where the entries are, and goes

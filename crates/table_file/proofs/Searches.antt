@@ -152,4 +152,5 @@ damaged_cause t n at bytes old new (table.Damaged d) is = tt
 pub damaged_taken : (t : Opened) (n : ℕ) (bytes : Bytes) (f : TableFault) → IsDamagedBlock t n bytes f → IsNoWant f
 damaged_taken t n bytes table.Memory is = absurd is
 damaged_taken t n bytes (table.Device cause) is = absurd is
-damaged_taken t n bytes (table.Damaged d) is = tt
+damaged_taken t n bytes (table.Damaged d) (inl is) = (bytes, byte_of_page (page_at t n), (row_at t.index.rows n).sum, inl is)
+damaged_taken t n bytes (table.Damaged d) (inr is) = (bytes, byte_of_page (page_at t n), (row_at t.index.rows n).sum, inr is.1)

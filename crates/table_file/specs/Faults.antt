@@ -1,10 +1,13 @@
 -- What the faults of reading a table say.
-use Rattle.std.specs.Prelude.{◌≡◌, ◌≢◌, ◌⊎◌, ◌≤◌, ℕ, Option, Some, None}
+use Rattle.std.specs.Prelude.{◌≡◌, ◌≢◌, ◌⊎◌, ◌≤◌, ◌+◌, ℕ, Option, Some, None}
+use Rattle.std.specs.Option.{option_map}
+use Rattle.block_model.specs.BlockReading.{block_fault}
 use Rattle.byte_fields.specs.Faults.{Fault, fault}
 use Rattle.byte_fields.specs.Sums.{fnv_of}
 use Rattle.byte_fields.specs.declared.parts.Damage.{Damage}
 use Rattle.byte_fields.specs.declared.parts.Damage.TheVariants as damage
 use Rattle.byte_fields.specs.declared.parts.Part.{Part}
+use Rattle.byte_fields.specs.declared.parts.Part.TheVariants as part
 use Rattle.byte_fields.specs.declared.parts.Row.{Row}
 use Rattle.disk_trait.specs.Fault.{IsFaultOf}
 use Rattle.disk_trait.specs.Image.{Image}
@@ -44,12 +47,6 @@ IsNoDamage table.Memory = Unit {0}
 IsNoDamage (table.Device cause) = Unit {0}
 IsNoDamage (table.Damaged d) = ⊥
 
--- the device or what was read, and not memory
-abbrev pub IsNoWant : TableFault → Type 0
-IsNoWant table.Memory = ⊥
-IsNoWant (table.Device cause) = Unit {0}
-IsNoWant (table.Damaged d) = Unit {0}
-
 -- memory or what was read, and not the device
 abbrev pub IsNoDevice : TableFault → Type 0
 IsNoDevice table.Memory = Unit {0}
@@ -66,6 +63,18 @@ IsDamage first (table.Damaged d) = first ≡ Some d
 pub record IsOtherSum (part : Part) (at kept : ℕ) (bytes : Bytes) (fault : TableFault) : Type 0 where
   pub other : kept ≢ fnv_of bytes
   pub fault_is : fault ≡ table.Damaged (damage.Sum part at kept (fnv_of bytes))
+
+-- A damage of a block, whatever the device reads: the sum of some bytes is another one than the kept one, or they break this rule
+-- first.
+abbrev pub IsBlockDamage : Damage → Type 0
+IsBlockDamage d = (bytes : Bytes) × (at : ℕ) × (kept : ℕ)
+    × (IsOtherSum part.Block at kept bytes (table.Damaged d) ⊎ (option_map (λ (f : Fault). damage.Shape part.Block (at + f.place) f.rule) (block_fault bytes) ≡ Some d))
+
+-- the device or a damage of a block, and not memory
+abbrev pub IsNoWant : TableFault → Type 0
+IsNoWant table.Memory = ⊥
+IsNoWant (table.Device cause) = Unit {0}
+IsNoWant (table.Damaged d) = IsBlockDamage d
 
 -- the fault that the definitions of tables speak of
 abbrev pub filter_fault_of : (Bytes → Fault) → Bytes → FilterFault

@@ -4,9 +4,10 @@
 //! A [`TableBuilder`] takes entries by rising keys and cuts them into blocks as it goes; [`Parts`] are the blocks, the index
 //! and the filter of its entries, and [`write_parts`] puts them on a device by three writes and a sync. At `Ok` each image
 //! that a crash may leave has the table. [`open_table`] reads index and filter and judges every byte of them before it is
-//! trusted, and [`read_index`] and [`read_filter`] do so of one of them; a [`Table`] then answers a [`get`](Table::get) by one read of one block, or by none where its filter denies the
-//! key. A [`TableCursor`] walks the entries from a key on: it reads a block where one is due, and hands its entries out where
-//! they lie. The kind of filter and the device are parameters, known by their traits alone.
+//! trusted, and [`read_index`] and [`read_filter`] do so of one of them; a [`Table`] then answers a [`get`](Table::get) by one
+//! read of one block, or by none where its filter denies the key. A [`TableCursor`] walks the entries from a key on: it reads a
+//! block where one is due, builds each key in a buffer of its own, and lends each value from the block. The kind of filter and
+//! the device are parameters, known by their traits alone.
 //!
 //! An opened table keeps its index and its filter in memory: about 60 bytes and a key for each block. Building keeps all of
 //! the table's bytes, and its keys until the filter is built. Not for entries that come in any order, and not for a change of

@@ -1,13 +1,15 @@
 //! The index of a table whose filter is not read yet.
-ghost use Rattle.std.specs.Prelude.{◌≡◌, ◌+◌, ◌<◌, length, take};
 ghost use Rattle.block_model.specs.Index.{row_pages};
+ghost use Rattle.block_model.specs.Pages.{page_bytes};
 ghost use Rattle.filter_api.specs.Ranges.{IsRowInRange};
-ghost use Rattle.table_file.specs.Search.{row_at};
+ghost use Rattle.std.specs.Prelude.{◌≡◌, ◌+◌, ◌*◌, ◌<◌, ◌≤◌, length, take};
+ghost use Rattle.table_file.specs.Search.{largest_block, row_at};
 
 use crate::index::BlockIndex;
 use crate::table::Table;
 use byte_fields::Row;
 use filter_api::RangeFilter;
+use key_base::PAGE_BYTES;
 use std::marker::Model;
 
 /// The index of a table in memory, with the table's row.
@@ -73,6 +75,24 @@ impl Index {
         ensures { result ≡ self.now.row.first_page + row_pages (take n self.now.index.rows) }
     {
         u64::from(self.row.first_page) + self.blocks.row(n as usize).first
+    }
+
+    /// How many bytes the block number `n` has, 1,052,672 at most.
+    #[tactic(auto, using(crate::proofs::Rooms::row_within))]
+    pub fn block_bytes(&self, n: u32) -> usize
+        requires { n < length self.now.index.rows }
+        ensures size { result ≡ page_bytes * (row_at self.now.index.rows n).pages }
+        ensures large { result ≤ largest_block }
+    {
+        PAGE_BYTES * self.blocks.row(n as usize).pages as usize
+    }
+
+    /// The sum of the bytes of the block number `n` (FNV-1a, 64 bits), as the index keeps it.
+    pub fn block_sum(&self, n: u32) -> u64
+        requires { n < length self.now.index.rows }
+        ensures { result ≡ (row_at self.now.index.rows n).sum }
+    {
+        self.blocks.row(n as usize).sum
     }
 
     /// The table with this filter, which is one of the row's settings.

@@ -210,7 +210,7 @@ impl<F: RangeFilter> Table<F> {
     }
 
     /// Reads a block into a buffer that has room for its bytes, as [`read_block`](Table::read_block) does, and judges it. Answers
-    /// how many bytes it has, and whether it has an entry of a key. One read, one pass over the bytes, and no memory.
+    /// how many bytes it has, and whether it has an entry of a key. One read, one pass over the bytes and a search, and no memory.
     ///
     /// `Damaged` exactly where the bytes have another sum than the index keeps, or else break a rule of the format.
     pub fn read_and_find<D: Disk>(
@@ -278,7 +278,7 @@ impl<F: RangeFilter> Table<F> {
     }
 
     // What the block number `n` says of a key, where these are its bytes as they were read just now. Another sum than the index
-    // keeps is told before a rule that is broken. One pass over the bytes, and no memory.
+    // keeps is told before a rule that is broken. One pass over the bytes and a search, and no memory.
     fn find_read<'a>(
         &self,
         n: u32,
@@ -291,6 +291,7 @@ impl<F: RangeFilter> Table<F> {
         ensures whole { IfOk result (λ _. block_fault bytes.now ≡ None) }
         ensures said { IfOk result (λ found. option_map (λ f. option_map (λ v. v.now) f) found ≡ lookup (block_in bytes.now) key.now) }
         ensures damaged { IfErr result (IsDamagedBlock self.now n bytes.now) }
+        ensures taken { IfErr result IsNoWant }
     {
         let (sum, found) = Block::read_sum_and_find(bytes, key);
         self.check_block(n, sum)?;
@@ -323,6 +324,7 @@ impl<F: RangeFilter> Table<F> {
         ensures some { low.entry ≡ None → IfOk result (λ walk. 1 ≤ walk.left) }
         ensures sound { IfOk result (λ walk. AllByRecursion IsEntry (walked walk buffer.new bytes.now)) }
         ensures damaged { IfErr result (IsDamagedBlock self.now n bytes.now) }
+        ensures taken { IfErr result IsNoWant }
     {
         let (sum, walk) = read_sum_and_walk(bytes, low, buffer);
         self.check_block(n, sum)?;
@@ -333,7 +335,7 @@ impl<F: RangeFilter> Table<F> {
     }
 
     /// What the block number `n` says of a key, where these are its bytes: its value, or `Some(None)` for a tombstone;
-    /// or the first rule of the format that the bytes break. One pass over the bytes, and no memory.
+    /// or the first rule of the format that the bytes break. One pass over the bytes and a search, and no memory.
     pub fn find_in<'a>(
         &self,
         n: u32,
