@@ -7,7 +7,7 @@ use Rattle.disk_trait.proofs.Calls.{reads_more, reads_then}
 use Rattle.block_model.specs.Places.{byte_of_page}
 use Rattle.merge_rows.specs.Merges.{blocks_in, left_above, numbered, walk_left}
 use Rattle.merge_rows.specs.Reads.{IsFewer, blocks_left_in, next_block_of, wanted_block_of}
-use Rattle.merge_rows.specs.Steps.{AreWalksIn, IsCaughtUp, IsSoundWalk, number_of_walk, stand_of_walk, stands}
+use Rattle.merge_rows.specs.Steps.{AreWalksIn, IsCaughtUp, IsSoundWalk, number_of_walk, numbers, stand_of_walk, stands}
 use Rattle.table_file.specs.Search.{IsGetFault, page_at}
 use Rattle.merge_rows.proofs.Fills.{cause_since}
 use Rattle.merge_rows.proofs.FirstFills.{IsSoundHere, Went, all_clear, all_ready, fewer_err, fewer_none, fewer_one, none_wanted, number_among, number_here, read_none, read_one, set_left, set_next, set_numbers, set_same, set_sound, set_stands, set_wanted, sound_here, wanted_here, went_by, went_length, went_map, went_on, went_sound, went_sum, went_wanted}

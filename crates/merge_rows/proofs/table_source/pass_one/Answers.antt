@@ -7,7 +7,9 @@ use Rattle.merge_rows.proofs.FirstFills.{IsSoundHere, all_here, all_set, map_set
 use Rattle.merge_rows.proofs.table_source.pass_one.Goals as goal
 
 pub pass-requires : goal.pass-requires
-pass-requires g c = number_here c.args.tables.now.tables c.args.walks.now c.args.at c.index-walks-at.result c.requires.there c.requires.known
+pass-requires g c =
+    let here = number_here c.args.tables.now.tables c.args.walks.now c.args.at c.index-walks-at.result c.requires.there c.requires.known in
+    record { there = here.0; room = here.1 }
 
 pub returns-clause-passed : goal.returns-clause-passed
 returns-clause-passed g c =

@@ -29,6 +29,7 @@ loop-self-preserved g c =
     let sounds : IsTrue g.D.Disk.tells → IsSoundWalk floor old blocks → IsSoundWalk floor mid blocks = λ t s. subst (λ (w : CursorWalk). IsSoundWalk floor w blocks) walk_is (from.sound t s) in
     record {
       number = ap (λ (s : TableWalk). s.number) c.self.view_is ∙ from.number;
+      room = c.advance.ensures.room ∙ ap (λ (s : TableWalk). s.walk.room) c.self.view_is ∙ from.room;
       block = (c.advance.ensures.at_hand idle).2 ∙ ap (λ (s : TableWalk). s.walk.block) c.self.view_is ∙ from.block;
       same = λ t. passed_same floor rows blocks old mid new used
           (subst (λ (w : CursorWalk). above_floor floor (with_hand w.now (to_come w blocks)) ≡ above_floor floor (with_hand old.now (to_come old blocks))) walk_is (from.same t)) some (out t);

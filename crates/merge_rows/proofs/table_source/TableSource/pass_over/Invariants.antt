@@ -18,6 +18,7 @@ invariant-loop-self g l =
     let now = l.self.walk in
     record {
       number : l.self.number ≡ l.fn.self.number;
+      room : now.room ≡ old.room;
       block : now.block ≡ old.block;
       same : tells → above_floor l.floor (with_hand now.now (to_come now blocks)) ≡ above_floor l.floor (with_hand old.now (to_come old blocks));
       sound : tells → IsSoundWalk l.floor old blocks → IsSoundWalk l.floor now blocks;
