@@ -35,14 +35,15 @@ use Rattle.level_merge.proofs.OutputLists.{full_output, no_row, none_built}
 use Rattle.merge_rows.specs.Merges.{Merge, merged_left, rows_left}
 use Rattle.merge_rows.specs.Reads.{OnlyReads, SomeBlock, blocks_left}
 use Rattle.merge_rows.specs.Rows.{rows_shown}
-use Rattle.merge_rows.specs.Steps.{IsSoundMerge, numbers, stands}
+use Rattle.merge_rows.specs.Steps.{IsSoundMerge, numbers, stand_of_walk}
 use Rattle.state_model.specs.Merges.{lasting, outputs_of}
 use Rattle.table_file.specs.Laws.{StandingBlocks}
 use Rattle.table_file.specs.Opened.{Opened}
 use Rattle.table_file.specs.Search.{IsGetFault}
 use Rattle.table_file.specs.declared.fault.TableFault.TheVariants as table
-use Rattle.table_model.proofs.Kept.{at_kept}
+use Rattle.table_model.proofs.Kept.{at_kept, kept_pieces}
 use Rattle.table_model.specs.Laws.{IsApartFromRow}
+use Rattle.table_model.specs.Pieces.{index_of_pieces}
 use Rattle.table_model.specs.Tables.{FilterBytes, Table, filter_bytes_of, table_of, table_pages}
 
 -- ---- tables that stand apart from what is written
@@ -53,7 +54,7 @@ module _ (spelling : Spelling) (at n : ℕ) (f g : Image) (torn : Torn at n f g)
     blocks = held.blocks;
     stands = record {
       at = at_kept spelling opened.row held.blocks at n f g apart torn held.stands.at;
-      index_is = held.stands.index_is;
+      index_is = held.stands.index_is ∙ sym (ap index_of_pieces (kept_pieces spelling opened.row held.blocks at n f g apart torn held.stands.at));
       hash_is = held.stands.hash_is;
       real_is = held.stands.real_is;
       leaves_are = held.stands.leaves_are;
@@ -344,7 +345,7 @@ module _ (standing : StandingBlocks) (spelling : Spelling) (built_cutoff : ℕ �
         });
         read = subst (λ (m : Merge). blocks_left opened m.walks ≤ blocks_left opened old.merge.walks) (sym walks_are) takes.fewer;
         numbers_are = ap (λ (m : Merge). numbers m.walks) walks_are ∙ takes.sources.numbers_are;
-        stands_are = ap (λ (m : Merge). stands m.walks) walks_are ∙ takes.sources.stands_are;
+        stands_are = ap (λ (m : Merge). map stand_of_walk m.walks) walks_are ∙ takes.sources.stands_are;
         settings = new_settings;
         output = ap (λ (m : JobValue). m.output) closes.new_is ∙ output_is;
         makes = record {
