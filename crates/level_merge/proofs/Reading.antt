@@ -31,8 +31,8 @@ pub later_fault : (tells : Bool) (tables : List Opened) (now which : List ℕ) (
 later_fault tells tables now which first mid after fault.Memory same reads is = tt
 later_fault tells tables now which first mid after (fault.Device cause) same reads is = (is.0, rose_later first.seen.read_faults mid.seen.read_faults after.seen.read_faults reads.1.read_faults is.1)
 later_fault tells tables now which first mid after (fault.Damaged d) same reads is =
-    λ t. subst (λ (numbers : List ℕ). SomeBlock tables numbers (λ place n. IsGetFault place n first.seen.held (table.Damaged d))) same
-    (subst (λ (h : Image). SomeBlock tables now (λ place n. IsGetFault place n h (table.Damaged d))) reads.1.held (is t))
+    (is.0, λ t. subst (λ (numbers : List ℕ). SomeBlock tables numbers (λ place n. IsGetFault place n first.seen.held (table.Damaged d))) same
+    (subst (λ (h : Image). SomeBlock tables now (λ place n. IsGetFault place n h (table.Damaged d))) reads.1.held (is.1 t)))
 later_fault tells tables now which first mid after (fault.Full need gap) same reads is = absurd is
 
 -- a fault of a read of rows is one of the merge
@@ -41,7 +41,7 @@ pub read_fault : (tells : Bool) (tables : List Opened) (which : List ℕ) (befor
     → (IsTrue tells → SomeBlock tables which (λ t n. IsGetFault t n before.seen.held why)) → IsTakeFault tells tables which before after (of_table_fault why)
 read_fault tells tables which before after table.Memory want cause damage = absurd want
 read_fault tells tables which before after (table.Device why) want cause damage = (ap (λ (f : DiskFault). f.op) cause.2.4.0, cause.2.4.1)
-read_fault tells tables which before after (table.Damaged d) want cause damage = damage
+read_fault tells tables which before after (table.Damaged d) want cause damage = (want, damage)
 
 -- ---- rows that are kept
 

@@ -382,5 +382,5 @@ module _ (standing : StandingBlocks) (spelling : Spelling) (filter_bytes : Filte
   pub take_refused : (which : List ℕ) (why : JobFault) → IsTakeFault tells opened which before after why → (why ≢ fault.Memory → 1 ≤ blocks_left opened old.merge.walks) → IsMakeRefusal filter_bytes opened old left free before after why
   take_refused which fault.Memory fails met = tt
   take_refused which (fault.Device cause) fails met = inl (fails.0, met (λ same. absurd cc), fails.1)
-  take_refused which (fault.Damaged d) fails met = never_damaged d which (fails is)
+  take_refused which (fault.Damaged d) fails met = never_damaged d which (fails.1 is)
   take_refused which (fault.Full need gap) fails met = absurd fails

@@ -28,6 +28,7 @@ use Rattle.merge_rows.specs.Merges.{Merge, merged_left, rows_left}
 use Rattle.merge_rows.specs.Reads.{OnlyReads, SomeBlock, blocks_left}
 use Rattle.merge_rows.specs.Steps.{IsSoundMerge, SourcesStay}
 use Rattle.state_model.specs.Merges.{lasting}
+use Rattle.table_file.specs.Faults.{IsBlockDamage}
 use Rattle.table_file.specs.Building.{Built}
 use Rattle.table_file.specs.Opened.{Opened}
 use Rattle.table_file.specs.Search.{IsGetFault}
@@ -66,7 +67,7 @@ pub record TakesRows (tells : Bool) (tables : List Opened) (image : Image) (old 
 abbrev pub IsTakeFault : Bool → List Opened → List ℕ → World → World → JobFault → Type 0
 IsTakeFault tells tables which old new fault.Memory = Unit {0}
 IsTakeFault tells tables which old new (fault.Device cause) = (cause.op ≡ Read) × Rose old.seen.read_faults new.seen.read_faults
-IsTakeFault tells tables which old new (fault.Damaged d) = IsTrue tells → SomeBlock tables which (λ t n. IsGetFault t n old.seen.held (table.Damaged d))
+IsTakeFault tells tables which old new (fault.Damaged d) = IsBlockDamage d × (IsTrue tells → SomeBlock tables which (λ t n. IsGetFault t n old.seen.held (table.Damaged d)))
 IsTakeFault tells tables which old new (fault.Full need gap) = ⊥
 
 -- ---- outputs
@@ -133,7 +134,7 @@ abbrev pub IsSliceFault : Bool → List Opened → List ℕ → World → World 
 IsSliceFault tells tables which old new fault.Memory = Unit {0}
 IsSliceFault tells tables which old new (fault.Device cause) =
     ((cause.op ≡ Read) × Rose old.seen.read_faults new.seen.read_faults) ⊎ ((cause.op ≢ Read) × Rose old.seen.write_faults new.seen.write_faults)
-IsSliceFault tells tables which old new (fault.Damaged d) = IsTrue tells → SomeBlock tables which (λ t n. IsGetFault t n old.seen.held (table.Damaged d))
+IsSliceFault tells tables which old new (fault.Damaged d) = IsBlockDamage d × (IsTrue tells → SomeBlock tables which (λ t n. IsGetFault t n old.seen.held (table.Damaged d)))
 IsSliceFault tells tables which old new (fault.Full need gap) = gap < need
 
 -- damage is met before anything is written

@@ -108,7 +108,7 @@ met_fault (table.Damaged d) most some = tt
 refused_fault : (f : TableFault) (stopped : Bool) (key : Bytes) (a b : World) → stopped ≡ false → key_limit key ≡ None → IsLookFault a b f → IsGetRefusal stopped key a b (of_table_fault f)
 refused_fault table.Memory stopped key a b runs limit is = is
 refused_fault (table.Device cause) stopped key a b runs limit is = (runs, limit, is)
-refused_fault (table.Damaged d) stopped key a b runs limit is = (runs, limit)
+refused_fault (table.Damaged d) stopped key a b runs limit is = (runs, limit, is)
 
 -- ---- the key was looked for in these tables, of which these blocks are kept
 

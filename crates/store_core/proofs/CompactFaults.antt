@@ -47,13 +47,13 @@ module _ (tells : Bool) (tables : List Opened) (which : List ℕ) (bytes : ℕ) 
   writing_fault job.Memory is = tt
   writing_fault (job.Device cause) (inl read) = inl (read.0, later_rose a.seen.read_faults w.seen.read_faults x.seen.read_faults so_far.1.read_faults read.1)
   writing_fault (job.Device cause) (inr write) = inr (is_write_op cause.op write.0, later_rose a.seen.write_faults w.seen.write_faults x.seen.write_faults so_far.1.write_faults write.1)
-  writing_fault (job.Damaged damage) is = tt
+  writing_fault (job.Damaged damage) is = is.0
   writing_fault (job.Full need gap) is = is
 
   pub writing_shown : (why : JobFault) → IsTrue tells → IsSliceFault tells tables which w x why → FailsBeforeWrite w x why → IsScanShown tables x.seen.held (of_job_fault why)
   writing_shown job.Memory t is same = tt
   writing_shown (job.Device cause) t is same = tt
-  writing_shown (job.Damaged damage) t is same = subst (λ (image : Image). IsScanShown tables image (error.Damaged damage)) (sym same) (told_block tables which w.seen.held (table.Damaged damage) (is t))
+  writing_shown (job.Damaged damage) t is same = subst (λ (image : Image). IsScanShown tables image (error.Damaged damage)) (sym same) (told_block tables which w.seen.held (table.Damaged damage) (is.1 t))
   writing_shown (job.Full need gap) t is same = tt
 
 -- ---- a refusal that a `?` passes on

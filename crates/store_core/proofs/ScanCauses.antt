@@ -32,7 +32,7 @@ use Rattle.std.proofs.lemmas.List.{length-map}
 look_since : (a b c : World) (at : ℕ) (why : TableFault) → a.seen.read_faults ≤ b.seen.read_faults → IsNoWant why → HasReadCause at b c why → IsLookFault a c why
 look_since a b c at table.Memory earlier taken is = absurd taken
 look_since a b c at (table.Device cause) earlier taken is = (ap (λ (f : DiskFault). f.op) is.0, omega (arith, earlier, is.1))
-look_since a b c at (table.Damaged d) earlier taken is = tt
+look_since a b c at (table.Damaged d) earlier taken is = taken
 
 -- a read of some block failed, behind other reads
 pub block_cause : (a b c : World) (tables : List Opened) (which : List ℕ) (why : TableFault) → OnlyReads a b → IsNoWant why → SomeBlock tables which (λ t n. HasReadCause (byte_of_page (page_at t n)) b c why) → IsLookFault a c why
@@ -77,7 +77,7 @@ none_value (Some value) none = absurd (false≢true (sym none))
 pub told_step : (a b : World) (why : TableFault) → IsLookFault a b why → IsStepFault a b (of_table_fault why)
 told_step a b table.Memory is = is
 told_step a b (table.Device cause) is = is
-told_step a b (table.Damaged d) is = tt
+told_step a b (table.Damaged d) is = is
 
 contains_at : (tables : List Opened) (place : ℕ) (t : Opened) → slice_get tables place ≡ Some t → Contains tables t
 contains_at [] place t is = absurd cc

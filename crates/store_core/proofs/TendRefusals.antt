@@ -33,14 +33,14 @@ module _ (tells : Bool) (tables : List Opened) (which : List ℕ) (a b : World) 
   slice_refusal before after epoch fault.Memory gone is = refl
   slice_refusal before after epoch (fault.Device cause) gone (inl read) = (refl, inl read)
   slice_refusal before after epoch (fault.Device cause) gone (inr write) = (refl, inr (not_read_writes cause.op write.0, write.1))
-  slice_refusal before after epoch (fault.Damaged damage) gone is = refl
+  slice_refusal before after epoch (fault.Damaged damage) gone is = (refl, is.0)
   slice_refusal before after epoch (fault.Full need gap) gone is = (gone, is)
 
   pub slice_shown : (why : JobFault) → IsTrue tells → IsSliceFault tells tables which a b why → FailsBeforeWrite a b why → IfErr (answer_to why) (IsScanShown tables b.seen.held)
   slice_shown fault.Memory t is same = tt
   slice_shown (fault.Device cause) t is same = tt
   slice_shown (fault.Damaged damage) t is same =
-      subst (λ (image : Image). IsScanShown tables image (error.Damaged damage)) (sym same) (told_block tables which a.seen.held (table.Damaged damage) (is t))
+      subst (λ (image : Image). IsScanShown tables image (error.Damaged damage)) (sym same) (told_block tables which a.seen.held (table.Damaged damage) (is.1 t))
   slice_shown (fault.Full need gap) t is same = tt
 
 -- its install was refused

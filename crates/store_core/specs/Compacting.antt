@@ -31,6 +31,7 @@ use Rattle.store_core.specs.Opening.{FaultRose}
 use Rattle.store_core.specs.Represents.{RepresentsOn}
 use Rattle.store_core.specs.declared.error.StoreError.{StoreError}
 use Rattle.store_core.specs.declared.error.StoreError.TheVariants as error
+use Rattle.table_file.specs.Faults.{IsBlockDamage}
 use Rattle.table_file.specs.Opened.{Opened}
 use Rattle.table_model.specs.Tables.{FilterBytes, Table}
 
@@ -43,7 +44,7 @@ IsCompactRefusal stopped epoch old new (error.Device cause) = (stopped ≡ false
 IsCompactRefusal stopped epoch old new error.Stopped = stopped ≡ true
 IsCompactRefusal stopped epoch old new (error.Limit limit) = (stopped ≡ false) × (told_limit limit ≡ LastEpoch) × (epoch ≡ last_epoch)
 IsCompactRefusal stopped epoch old new (error.Full need gap) = (stopped ≡ false) × (gap < need)
-IsCompactRefusal stopped epoch old new (error.Damaged damage) = stopped ≡ false
+IsCompactRefusal stopped epoch old new (error.Damaged damage) = (stopped ≡ false) × IsBlockDamage damage
 IsCompactRefusal stopped epoch old new error.NotAStore = ⊥
 IsCompactRefusal stopped epoch old new error.AlreadyAStore = ⊥
 IsCompactRefusal stopped epoch old new (error.BadSettings field) = ⊥
@@ -52,7 +53,7 @@ IsCompactRefusal stopped epoch old new (error.BadSettings field) = ⊥
 abbrev pub IsWritingFault : World → World → JobFault → Type 0
 IsWritingFault old new job.Memory = Unit {0}
 IsWritingFault old new (job.Device cause) = FaultRose old new cause
-IsWritingFault old new (job.Damaged damage) = Unit {0}
+IsWritingFault old new (job.Damaged damage) = IsBlockDamage damage
 IsWritingFault old new (job.Full need gap) = gap < need
 
 abbrev pub IsCompactFault : World → World → StoreError → Type 0
@@ -61,7 +62,7 @@ IsCompactFault old new (error.Device cause) = FaultRose old new cause
 IsCompactFault old new error.Stopped = ⊥
 IsCompactFault old new (error.Limit limit) = ⊥
 IsCompactFault old new (error.Full need gap) = gap < need
-IsCompactFault old new (error.Damaged damage) = Unit {0}
+IsCompactFault old new (error.Damaged damage) = IsBlockDamage damage
 IsCompactFault old new error.NotAStore = ⊥
 IsCompactFault old new error.AlreadyAStore = ⊥
 IsCompactFault old new (error.BadSettings field) = ⊥

@@ -25,6 +25,7 @@ use Rattle.store_core.specs.declared.getting.Place.{Place}
 use Rattle.store_core.specs.declared.getting.Place.TheVariants as place
 use Rattle.store_core.specs.declared.getting.Spot.{Spot}
 use Rattle.store_core.specs.declared.getting.Spot.TheVariants as spot
+use Rattle.table_file.specs.Faults.{IsBlockDamage}
 use Rattle.table_file.specs.Opened.{Opened}
 use Rattle.table_file.specs.Search.{IsGetFault, block_for, largest_block}
 use Rattle.table_file.specs.declared.fault.TableFault.{TableFault}
@@ -104,7 +105,7 @@ ReadRose old new cause = (cause.op ≡ Read) × Rose old.seen.read_faults new.se
 abbrev pub IsLookFault : World → World → TableFault → Type 0
 IsLookFault old new table.Memory = ⊥
 IsLookFault old new (table.Device cause) = ReadRose old new cause
-IsLookFault old new (table.Damaged damage) = Unit {0}
+IsLookFault old new (table.Damaged damage) = IsBlockDamage damage
 
 -- the block of a table that is read for a key has this fault: another sum than the index keeps, or where the sum agrees, the
 -- first rule that its bytes break
@@ -138,7 +139,7 @@ IsGetRefusal stopped key old new (error.Device cause) = (stopped ≡ false) × (
 IsGetRefusal stopped key old new error.Stopped = stopped ≡ true
 IsGetRefusal stopped key old new (error.Limit limit) = (stopped ≡ false) × (key_limit key ≡ Some (told_limit limit))
 IsGetRefusal stopped key old new (error.Full need gap) = ⊥
-IsGetRefusal stopped key old new (error.Damaged damage) = (stopped ≡ false) × (key_limit key ≡ None)
+IsGetRefusal stopped key old new (error.Damaged damage) = (stopped ≡ false) × (key_limit key ≡ None) × IsBlockDamage damage
 IsGetRefusal stopped key old new error.NotAStore = ⊥
 IsGetRefusal stopped key old new error.AlreadyAStore = ⊥
 IsGetRefusal stopped key old new (error.BadSettings field) = ⊥

@@ -20,6 +20,7 @@ use Rattle.store_core.specs.Getting.{ReadRose}
 use Rattle.level_merge.specs.TablesAgree.{TablesAgree}
 use Rattle.store_core.specs.declared.error.StoreError.{StoreError}
 use Rattle.store_core.specs.declared.error.StoreError.TheVariants as error
+use Rattle.table_file.specs.Faults.{IsBlockDamage}
 use Rattle.table_file.specs.Opened.{Opened}
 use Rattle.table_file.specs.Search.{IsGetFault}
 use Rattle.table_file.specs.declared.fault.TableFault.TheVariants as table
@@ -161,7 +162,7 @@ IsScanRefusal stopped broken (error.BadSettings field) = ⊥
 -- why a scan does not go on: memory is never wanted
 abbrev pub IsStepFault : World → World → StoreError → Type 0
 IsStepFault old new (error.Device cause) = ReadRose old new cause
-IsStepFault old new (error.Damaged damage) = Unit {0}
+IsStepFault old new (error.Damaged damage) = IsBlockDamage damage
 IsStepFault old new error.Memory = ⊥
 IsStepFault old new error.Stopped = ⊥
 IsStepFault old new (error.Limit limit) = ⊥

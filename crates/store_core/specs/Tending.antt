@@ -33,6 +33,7 @@ use Rattle.store_core.specs.declared.error.StoreError.{StoreError}
 use Rattle.store_core.specs.declared.error.StoreError.TheVariants as error
 use Rattle.store_core.specs.declared.tending.Tended.{Tended}
 use Rattle.store_core.specs.declared.tending.Tended.TheVariants as tended
+use Rattle.table_file.specs.Faults.{IsBlockDamage}
 use Rattle.table_file.specs.Opened.{Opened}
 use Rattle.table_model.specs.Tables.{FilterBytes, Table}
 
@@ -74,7 +75,7 @@ IsTendRefusal stopped epoch old new (error.Device cause) = (stopped ≡ false) �
 IsTendRefusal stopped epoch old new error.Stopped = stopped ≡ true
 IsTendRefusal stopped epoch old new (error.Limit limit) = (stopped ≡ false) × (told_limit limit ≡ reply.LastEpoch) × (epoch ≡ last_epoch)
 IsTendRefusal stopped epoch old new (error.Full need gap) = ⊥
-IsTendRefusal stopped epoch old new (error.Damaged damage) = stopped ≡ false
+IsTendRefusal stopped epoch old new (error.Damaged damage) = (stopped ≡ false) × IsBlockDamage damage
 IsTendRefusal stopped epoch old new error.NotAStore = ⊥
 IsTendRefusal stopped epoch old new error.AlreadyAStore = ⊥
 IsTendRefusal stopped epoch old new (error.BadSettings field) = ⊥
