@@ -30,9 +30,11 @@ pub later_fault : (tells : Bool) (tables : List Opened) (now which : List ℕ) (
     → IsTakeFault tells tables now mid after why → IsTakeFault tells tables which first after why
 later_fault tells tables now which first mid after fault.Memory same reads is = tt
 later_fault tells tables now which first mid after (fault.Device cause) same reads is = (is.0, rose_later first.seen.read_faults mid.seen.read_faults after.seen.read_faults reads.1.read_faults is.1)
-later_fault tells tables now which first mid after (fault.Damaged d) same reads is =
-    (is.0, λ t. subst (λ (numbers : List ℕ). SomeBlock tables numbers (λ place n. IsGetFault place n first.seen.held (table.Damaged d))) same
-    (subst (λ (h : Image). SomeBlock tables now (λ place n. IsGetFault place n h (table.Damaged d))) reads.1.held (is.1 t)))
+later_fault tells tables now which first mid after (fault.Damaged d) same reads is = (
+  is.0,
+  λ t. subst (λ (numbers : List ℕ). SomeBlock tables numbers (λ place n. IsGetFault place n first.seen.held (table.Damaged d))) same
+      (subst (λ (h : Image). SomeBlock tables now (λ place n. IsGetFault place n h (table.Damaged d))) reads.1.held (is.1 t)),
+)
 later_fault tells tables now which first mid after (fault.Full need gap) same reads is = absurd is
 
 -- a fault of a read of rows is one of the merge
