@@ -1,5 +1,5 @@
 -- Reads of a merge, one behind the other, and their faults.
-use Rattle.std.proofs.Common.{◌≡◌, ◌∙◌, ◌+◌, ◌-◌, ◌<◌, ◌≤◌, ℕ, List, refl, ap, subst, arith}
+use Rattle.std.proofs.Common.{◌≡◌, ◌∙◌, ◌+◌, ◌*◌, ◌-◌, ◌<◌, ◌≤◌, ℕ, List, refl, ap, subst, arith}
 use Rattle.std.specs.Prelude.{Bool, true, false, IsTrue, Result, Ok, Err, nat_lt}
 use Rattle.std.proofs.lemmas.Bool.{ltb-true}
 use Rattle.block_model.specs.Places.{byte_of_page}
@@ -81,6 +81,23 @@ both_within blocks left rest a b c less le first more =
 
 pub within_all : (blocks left : ℕ) (a b : World) → ReadMoves (blocks - left) a b → ReadMoves blocks a b
 within_all blocks left a b reads = reads_more (blocks - left) blocks a b (omega arith) reads
+
+-- the same on any device, where one step reads two blocks at most
+pub one_twice : (blocks left : ℕ) (a b c : World) → 0 < left → left ≤ blocks → ReadMoves (2 * (blocks - left)) a b → ReadMoves 2 b c → ReadMoves (2 * (blocks - (left - 1))) a c
+one_twice blocks left a b c some le first more = reads_more (2 * (blocks - left) + 2) (2 * (blocks - (left - 1))) a c (omega (arith, some, le)) (reads_then (2 * (blocks - left)) 2 a b c first more)
+
+pub none_twice : (blocks left : ℕ) (a b c : World) → ReadMoves (2 * (blocks - left)) a b → ReadMoves 0 b c → ReadMoves (2 * (blocks - left)) a c
+none_twice blocks left a b c first more = reads_more (2 * (blocks - left) + 0) (2 * (blocks - left)) a c (omega arith) (reads_then (2 * (blocks - left)) 0 a b c first more)
+
+pub both_twice : (blocks left rest : ℕ) (a b c : World) → rest ≤ left → left ≤ blocks → ReadMoves (2 * (blocks - left)) a b → ReadMoves (2 * (left - rest)) b c → ReadMoves (2 * (blocks - rest)) a c
+both_twice blocks left rest a b c less le first more =
+    reads_more (2 * (blocks - left) + 2 * (left - rest)) (2 * (blocks - rest)) a c (omega (arith, less, le)) (reads_then (2 * (blocks - left)) (2 * (left - rest)) a b c first more)
+
+pub then_twice : (blocks left more : ℕ) (a b c : World) → more ≤ 2 * left → left ≤ blocks → ReadMoves (2 * (blocks - left)) a b → ReadMoves more b c → ReadMoves (2 * blocks) a c
+then_twice blocks left more a b c less le first last = reads_more (2 * (blocks - left) + more) (2 * blocks) a c (omega (arith, less, le)) (reads_then (2 * (blocks - left)) more a b c first last)
+
+pub all_twice : (blocks left : ℕ) (a b : World) → ReadMoves (2 * (blocks - left)) a b → ReadMoves (2 * blocks) a b
+all_twice blocks left a b reads = reads_more (2 * (blocks - left)) (2 * blocks) a b (omega arith) reads
 
 -- ---- blocks that are wanted
 

@@ -62,7 +62,8 @@ room_of_close spelling built_cutoff settings own built free here after same some
 
 module _ (spelling : Spelling) (built_cutoff : ℕ → List Leaf → ℕ) (tells : Bool) (blocks : ℕ) (opened : List Opened) (old mid : JobValue) (free : Taken) (before here : World)
     (rest : mid ≡ record old { merge = mid.merge; built = mid.built }) (reads : OnlyReads before here) (level : (1 ≤ old.output) × (old.output ≤ 6))
-    (walks : numbers mid.merge.walks ≡ numbers old.merge.walks) (stood : stands mid.merge.walks ≡ stands old.merge.walks) (bounded : IsTrue tells → IsSoundMerge old.merge opened before.seen.held → ReadMoves blocks before here) where
+    (walks : numbers mid.merge.walks ≡ numbers old.merge.walks) (stood : stands mid.merge.walks ≡ stands old.merge.walks) (twice : ReadMoves (2 * blocks) before here)
+    (bounded : IsTrue tells → IsSoundMerge old.merge opened before.seen.held → ReadMoves blocks before here) where
   same_output : mid.output ≡ old.output
   same_output = ap (λ (m : JobValue). m.output) rest
 
@@ -80,6 +81,7 @@ module _ (spelling : Spelling) (built_cutoff : ℕ → List Leaf → ℕ) (tells
   waited fewer less makes = record {
     makes = makes;
     bounded = λ t sound. (bounded t sound).reads;
+    twice = twice.reads;
     ends = λ _. reads_end opened old mid mid rest fewer less;
     level = level_of mid.output same_output;
     same = (same_output, same_settings);
@@ -99,6 +101,7 @@ module _ (spelling : Spelling) (built_cutoff : ℕ → List Leaf → ℕ) (tells
   had_nothing fewer makes = record {
     makes = makes;
     bounded = λ t sound. (bounded t sound).reads;
+    twice = twice.reads;
     ends = λ is. absurd (ready_is_none is);
     level = level_of mid.output same_output;
     same = (same_output, same_settings);
@@ -118,6 +121,7 @@ module _ (spelling : Spelling) (built_cutoff : ℕ → List Leaf → ℕ) (tells
   took_no_row why fails makes = record {
     makes = makes;
     bounded = λ t sound. (bounded t sound).reads;
+    twice = twice.reads;
     ends = tt;
     level = level_of mid.output same_output;
     same = (same_output, same_settings);
@@ -141,12 +145,16 @@ module _ (spelling : Spelling) (built_cutoff : ℕ → List Leaf → ℕ) (tells
     bounded_on : IsTrue tells → IsSoundMerge old.merge opened before.seen.held → after.seen.reads ≤ before.seen.reads + blocks
     bounded_on t sound = still_bounded spelling built_cutoff mid new free extents here after (before.seen.reads + blocks) (bounded t sound).reads writes
 
+    twice_on : after.seen.reads ≤ before.seen.reads + 2 * blocks
+    twice_on = still_bounded spelling built_cutoff mid new free extents here after (before.seen.reads + 2 * blocks) twice.reads writes
+
     pub closed_one : (row : Row) → Closes spelling built_cutoff mid new free extents row → blocks_left opened mid.merge.walks ≤ blocks_left opened old.merge.walks → is_full mid.beside mid.built ≡ true
         → (IsTrue tells → MakesAnyOutputs spelling (filter_bytes_of spelling built_cutoff) opened old new free extents (Ok sliced.Working) before after)
         → SliceContract spelling built_cutoff tells blocks opened old new free extents (Ok sliced.Working) before after
     closed_one row closes fewer full makes = record {
       makes = makes;
       bounded = bounded_on;
+      twice = twice_on;
       ends = λ _. closing_ends opened old mid new rest fewer spelling built_cutoff free extents row closes full;
       level = level_of new.output (same.0 ∙ same_output);
       same = (same.0 ∙ same_output, same.1 ∙ same_settings);
@@ -166,6 +174,7 @@ module _ (spelling : Spelling) (built_cutoff : ℕ → List Leaf → ℕ) (tells
     closed_last row closes fewer makes = record {
       makes = makes;
       bounded = bounded_on;
+      twice = twice_on;
       ends = λ is. absurd (ready_is_none is);
       level = level_of new.output (same.0 ∙ same_output);
       same = (same.0 ∙ same_output, same.1 ∙ same_settings);
@@ -185,6 +194,7 @@ module _ (spelling : Spelling) (built_cutoff : ℕ → List Leaf → ℕ) (tells
     closed_none some why fails makes = record {
       makes = makes;
       bounded = bounded_on;
+      twice = twice_on;
       ends = tt;
       level = level_of new.output (same.0 ∙ same_output);
       same = (same.0 ∙ same_output, same.1 ∙ same_settings);

@@ -1,5 +1,5 @@
 -- What a merge slice does, whole.
-use Rattle.std.specs.Prelude.{◌≡◌, ◌<◌, ◌≤◌, ◌+◌, ℕ, Bool, List, Result, IsTrue, IfOk, IfErr, OnOk}
+use Rattle.std.specs.Prelude.{◌≡◌, ◌<◌, ◌≤◌, ◌+◌, ◌*◌, ℕ, Bool, List, Result, IsTrue, IfOk, IfErr, OnOk}
 use Rattle.key_base.specs.Limits.{max_level}
 use Rattle.disk_trait.specs.World.{World}
 use Rattle.extent_map.specs.Taken.{Taken}
@@ -21,6 +21,8 @@ pub record SliceContract (spelling : Spelling) (built_cutoff : ℕ → List Leaf
   -- what it still makes of its tables goes on, on a device that tells the truth
   pub makes : IsTrue tells → MakesAnyOutputs spelling (filter_bytes_of spelling built_cutoff) opened old new free taken result before after
   pub bounded : IsTrue tells → IsSoundMerge old.merge opened before.seen.held → after.seen.reads ≤ before.seen.reads + blocks
+  -- on any device at most twice as many
+  pub twice : after.seen.reads ≤ before.seen.reads + 2 * blocks
   -- where something is left, it is less than before
   pub ends : IfOk result (λ sliced. sliced ≡ Working → work_left opened new < work_left opened old)
   pub level : (1 ≤ new.output) × (new.output ≤ max_level)

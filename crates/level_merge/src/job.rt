@@ -242,6 +242,7 @@ impl<'m, F: RangeFilter> Job<'m, F> {
         ensures fault { IfErr result (IsTakeFault D.tells tables.now.tables (numbers self.old.merge.walks) (D.world disk.old) (D.world disk.new)) }
         ensures met { IsTrue D.tells → IsSoundMerge self.old.merge tables.now.tables (D.world disk.old).seen.held → IfErr result (λ why. why ≢ Memory → 1 ≤ blocks_left tables.now.tables self.old.merge.walks) }
         ensures moves { OnlyReads (D.world disk.old) (D.world disk.new) }
+        ensures twice { ReadMoves (2 * blocks) (D.world disk.old) (D.world disk.new) }
         ensures bounded { IsTrue D.tells → IsSoundMerge self.old.merge tables.now.tables (D.world disk.old).seen.held → ReadMoves blocks (D.world disk.old) (D.world disk.new) }
     {
         take_rows(

@@ -1,5 +1,5 @@
 //! Rows that are taken from a merge into an output.
-ghost use Rattle.std.specs.Prelude.{◌≡◌, ◌≢◌, ◌<◌, ◌≤◌, ◌-◌, ◌++◌, false, length, IsTrue, IfOk, IfErr, IfSome, OnOk, OnErr, [], ◌∷◌};
+ghost use Rattle.std.specs.Prelude.{◌≡◌, ◌≢◌, ◌<◌, ◌≤◌, ◌-◌, ◌*◌, ◌++◌, false, length, IsTrue, IfOk, IfErr, IfSome, OnOk, OnErr, [], ◌∷◌};
 ghost use Rattle.block_model.specs.Order.{Follow, is_any};
 ghost use Rattle.disk_trait.specs.World.{ReadMoves};
 ghost use Rattle.entry_model.specs.Entries.{IsEntry, keys_of};
@@ -50,6 +50,7 @@ pub(crate) fn take_rows<'m, F: RangeFilter, D: Disk>(
     ensures fault { IfErr result (IsTakeFault D.tells tables.now.tables (numbers rows.old.walks) (D.world disk.old) (D.world disk.new)) }
     ensures met { IsTrue D.tells → IsSoundMerge rows.old tables.now.tables (D.world disk.old).seen.held → IfErr result (λ why. why ≢ Memory → 1 ≤ blocks_left tables.now.tables rows.old.walks) }
     ensures moves { OnlyReads (D.world disk.old) (D.world disk.new) }
+    ensures twice { ReadMoves (2 * blocks) (D.world disk.old) (D.world disk.new) }
     ensures bounded { IsTrue D.tells → IsSoundMerge rows.old tables.now.tables (D.world disk.old).seen.held → ReadMoves blocks (D.world disk.old) (D.world disk.new) }
 {
     let mut left = blocks;
@@ -91,6 +92,8 @@ fn read_ahead<'m, F: RangeFilter, D: Disk>(
     ensures fault { IfErr result (IsTakeFault D.tells tables.now.tables (numbers rows.old.walks) (D.world disk.old) (D.world disk.new)) }
     ensures met { IsTrue D.tells → IsSoundMerge rows.old tables.now.tables (D.world disk.old).seen.held → OnErr result (1 ≤ blocks_left tables.now.tables rows.old.walks) }
     ensures moves { OnlyReads (D.world disk.old) (D.world disk.new) }
+    ensures paced { IfOk result (λ left. ReadMoves (2 * (blocks - left)) (D.world disk.old) (D.world disk.new)) }
+    ensures twice { ReadMoves (2 * blocks) (D.world disk.old) (D.world disk.new) }
     ensures bounded { IsTrue D.tells → IsSoundMerge rows.old tables.now.tables (D.world disk.old).seen.held → ReadMoves blocks (D.world disk.old) (D.world disk.new) }
     ensures counted { IsTrue D.tells → IsSoundMerge rows.old tables.now.tables (D.world disk.old).seen.held → IfOk result (λ left. ReadMoves (blocks - left) (D.world disk.old) (D.world disk.new)) }
 {

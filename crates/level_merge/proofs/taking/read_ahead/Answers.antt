@@ -7,7 +7,7 @@ use Rattle.merge_rows.specs.Rows.{KeyFloor}
 use Rattle.merge_rows.specs.Steps.{AreCaughtUp, AreHeadsClear, IsSoundMerge, StaysAt, numbers}
 use Rattle.merge_rows.proofs.Stays.{only_then, read_none, read_one}
 use Rattle.level_merge.proofs.AllRead.{wanted_left}
-use Rattle.level_merge.proofs.Reading.{kept_then, later_fault, none_more, none_wanted, one_more, one_wanted, read_fault, within_all}
+use Rattle.level_merge.proofs.Reading.{all_twice, kept_then, later_fault, none_more, none_twice, none_wanted, one_more, one_twice, one_wanted, read_fault, then_twice, within_all}
 use Rattle.level_merge.proofs.taking.read_ahead.Goals as goal
 
 pub loop-left-preserved : goal.loop-left-preserved
@@ -28,6 +28,7 @@ loop-left-preserved g c =
       fewer = omega (arith, less, from.fewer);
       some = λ _. omega (arith, less, from.fewer);
       moves = only_then 2 before mid after from.moves c.fill.ensures.moves;
+      paced = one_twice c.args.blocks c.loop-left.left before mid after (omega (arith, c.loop-left-test.true)) from.within from.paced c.fill.ensures.moves;
       counted = λ t s.
           let once = subst (λ (h : Image). IsSoundMerge old tables h → ReadMoves 1 mid after × IsFewer c.fill.result (wanted old tables) (wanted new tables)) held (c.fill.ensures.once t) (from.kept.sources.sound t s) in
           one_more c.args.blocks c.loop-left.left before mid after (omega (arith, c.loop-left-test.true)) from.within (from.counted t s) once.0;
@@ -83,6 +84,22 @@ returns-in-Ok-false-clause-caught_up g c t less =
 pub returns-in-Ok-false-clause-moves : goal.returns-in-Ok-false-clause-moves
 returns-in-Ok-false-clause-moves g c =
     only_then 2 (g.D.Disk.world c.args.disk.now) (g.D.Disk.world c.loop-left.disk) (g.D.Disk.world c.fill.new.disk) c.loop-left.invariant.moves c.fill.ensures.moves
+
+pub returns-in-Ok-false-clause-paced : goal.returns-in-Ok-false-clause-paced
+returns-in-Ok-false-clause-paced g c =
+    none_twice c.args.blocks c.loop-left.left (g.D.Disk.world c.args.disk.now) (g.D.Disk.world c.loop-left.disk) (g.D.Disk.world c.fill.new.disk) c.loop-left.invariant.paced
+    (c.in-Ok-false.ensures.idle c.in-Ok-false.field-0-test)
+
+pub returns-in-Ok-false-clause-twice : goal.returns-in-Ok-false-clause-twice
+returns-in-Ok-false-clause-twice g c =
+    all_twice c.args.blocks c.loop-left.left (g.D.Disk.world c.args.disk.now) (g.D.Disk.world c.fill.new.disk)
+    (none_twice c.args.blocks c.loop-left.left (g.D.Disk.world c.args.disk.now) (g.D.Disk.world c.loop-left.disk) (g.D.Disk.world c.fill.new.disk) c.loop-left.invariant.paced
+    (c.in-Ok-false.ensures.idle c.in-Ok-false.field-0-test))
+
+pub returns-in-Err-clause-twice : goal.returns-in-Err-clause-twice
+returns-in-Err-clause-twice g c =
+    then_twice c.args.blocks c.loop-left.left 2 (g.D.Disk.world c.args.disk.now) (g.D.Disk.world c.loop-left.disk) (g.D.Disk.world c.fill.new.disk) (omega (arith, c.loop-left-test.true)) c.loop-left.invariant.within
+    c.loop-left.invariant.paced c.fill.ensures.moves
 
 pub returns-in-Ok-false-clause-counted : goal.returns-in-Ok-false-clause-counted
 returns-in-Ok-false-clause-counted g c t s =

@@ -1,4 +1,4 @@
-use Rattle.std.proofs.Common.{◌<◌, ◌≤◌, ◌-◌}
+use Rattle.std.proofs.Common.{◌<◌, ◌≤◌, ◌-◌, ◌*◌}
 use Rattle.std.specs.Prelude.{IsTrue}
 use Rattle.disk_trait.specs.World.{ReadMoves}
 use Rattle.level_merge.specs.SliceSteps.{KeepsRows}
@@ -19,6 +19,7 @@ invariant-loop-left g l =
       fewer : blocks_left tables l.rows.walks ≤ blocks_left tables l.fn.rows.walks;
       some : l.left < l.blocks → blocks_left tables l.rows.walks < blocks_left tables l.fn.rows.walks;
       moves : OnlyReads before after;
+      paced : ReadMoves (2 * (l.blocks - l.left)) before after;
       counted : IsTrue tells → IsSoundMerge l.fn.rows tables before.seen.held → ReadMoves (l.blocks - l.left) before after;
     }
 

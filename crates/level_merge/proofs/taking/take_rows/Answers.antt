@@ -1,4 +1,4 @@
-use Rattle.std.proofs.Common.{rules, ◌≡◌, ◌<◌, ◌≤◌, ◌∙◌, ◌++◌, Bool, List, true, false, sym, ap, subst, arith}
+use Rattle.std.proofs.Common.{rules, ◌≡◌, ◌<◌, ◌≤◌, ◌*◌, ◌∙◌, ◌++◌, Bool, List, true, false, sym, ap, subst, arith}
 use Rattle.std.specs.Prelude.{IsTrue, is_some}
 use Rattle.disk_trait.specs.Image.{Image}
 use Rattle.entry_model.specs.Entries.{Entry}
@@ -12,7 +12,7 @@ use Rattle.merge_rows.proofs.RowSteps.{rises_on}
 use Rattle.merge_rows.proofs.Stays.{only_both}
 use Rattle.level_merge.specs.JobValue.{IsBuilding, at_hand}
 use Rattle.level_merge.specs.SliceSteps.{FillsOutput, KeepsRows}
-use Rattle.level_merge.proofs.Reading.{both_within, later_fault, some_then}
+use Rattle.level_merge.proofs.Reading.{both_twice, both_within, later_fault, some_then, then_twice}
 use Rattle.level_merge.proofs.RowsTaken.{building_more, building_rises, fills_last, fills_one, none_left, row_follows, stays_on}
 use Rattle.state_model.specs.Merges.{lasting}
 use Rattle.table_file.specs.Building.{Built}
@@ -90,11 +90,16 @@ loop-rows-preserved g c =
           read.within from.fills.fewer (let two = read.fewer in omega (arith, left, two)) from.some
           (λ fewer. let fell = read.some fewer in omega (arith, fell, left));
       moves = only_both before start after from.moves c.read_ahead.ensures.moves;
+      paced = both_twice c.args.blocks c.loop-rows.left c.in_ok-left.left before start after read.within from.within from.paced read.paced;
       counted = λ t s. both_within c.args.blocks c.loop-rows.left c.in_ok-left.left before start after read.within from.within (from.counted t s)
           (read.counted t (subst (IsSoundMerge old tables) (sym held) (from.stay.sound t s)));
     }
 
 -- ---- no row was taken
+
+pub returns-in_err-left-clause-twice : goal.returns-in_err-left-clause-twice
+returns-in_err-left-clause-twice g c = then_twice c.args.blocks c.loop-rows.left (2 * c.loop-rows.left) (g.D.Disk.world c.args.disk.now) (g.D.Disk.world c.loop-rows.disk) (g.D.Disk.world c.read_ahead.new.disk)
+    (omega arith) c.loop-rows.invariant.within c.loop-rows.invariant.paced c.read_ahead.ensures.twice
 
 pub returns-in_err-left-clause-moves : goal.returns-in_err-left-clause-moves
 returns-in_err-left-clause-moves g c =
@@ -107,6 +112,10 @@ returns-in_err-left-clause-fault g c =
     later_fault g.D.Disk.tells c.args.tables.now.tables (numbers old.walks) (numbers c.args.rows.now.walks) (g.D.Disk.world c.args.disk.now) (g.D.Disk.world c.loop-rows.disk)
     (g.D.Disk.world c.read_ahead.new.disk) c.in_err-left.field-0.0 c.loop-rows.invariant.stay.numbers_are c.loop-rows.invariant.moves c.in_err-left.ensures.fault in
     search rules
+
+pub returns-then-left-eq0-clause-twice : goal.returns-then-left-eq0-clause-twice
+returns-then-left-eq0-clause-twice g c = then_twice c.args.blocks c.loop-rows.left (2 * c.loop-rows.left) (g.D.Disk.world c.args.disk.now) (g.D.Disk.world c.loop-rows.disk) (g.D.Disk.world c.read_ahead.new.disk)
+    (omega arith) c.loop-rows.invariant.within c.loop-rows.invariant.paced c.read_ahead.ensures.twice
 
 pub returns-then-left-eq0-clause-moves : goal.returns-then-left-eq0-clause-moves
 returns-then-left-eq0-clause-moves g c =
@@ -184,6 +193,10 @@ returns-then-not-advance_filled-clause-stop g c =
     let none : is_some new.now ≡ false = sym c.advance_filled.ensures.said ∙ c.if-not-advance_filled.true in
     none_left tells tables image c.args.beside c.args.drops first old mid begun built from.stay from.fills kept read.fewer new step.0 step.1 left none
 
+pub returns-then-not-advance_filled-clause-twice : goal.returns-then-not-advance_filled-clause-twice
+returns-then-not-advance_filled-clause-twice g c = then_twice c.args.blocks c.loop-rows.left (2 * c.loop-rows.left) (g.D.Disk.world c.args.disk.now) (g.D.Disk.world c.loop-rows.disk) (g.D.Disk.world c.read_ahead.new.disk)
+    (omega arith) c.loop-rows.invariant.within c.loop-rows.invariant.paced c.read_ahead.ensures.twice
+
 pub returns-then-not-advance_filled-clause-moves : goal.returns-then-not-advance_filled-clause-moves
 returns-then-not-advance_filled-clause-moves g c =
     only_both (g.D.Disk.world c.args.disk.now) (g.D.Disk.world c.loop-rows.disk) (g.D.Disk.world c.read_ahead.new.disk) c.loop-rows.invariant.moves c.read_ahead.ensures.moves
@@ -218,6 +231,10 @@ returns-in_err-add_row-clause-building g c =
     let building = subst (λ (f : KeyFloor). IsBuilding f built) (sym c.read_ahead.ensures.kept.floor_is) c.loop-rows.invariant.building in
     subst (IsBuilding new.floor) (sym (ap (λ (b : Built). b.entries) c.in_err-add_row.ensures.unchanged))
     (building_rises mid.floor new.floor built (rises_on new.now mid.floor new.floor step.1.passes) building)
+
+pub returns-in_err-add_row-clause-twice : goal.returns-in_err-add_row-clause-twice
+returns-in_err-add_row-clause-twice g c = then_twice c.args.blocks c.loop-rows.left (2 * c.loop-rows.left) (g.D.Disk.world c.args.disk.now) (g.D.Disk.world c.loop-rows.disk) (g.D.Disk.world c.read_ahead.new.disk)
+    (omega arith) c.loop-rows.invariant.within c.loop-rows.invariant.paced c.read_ahead.ensures.twice
 
 pub returns-in_err-add_row-clause-moves : goal.returns-in_err-add_row-clause-moves
 returns-in_err-add_row-clause-moves g c =

@@ -40,7 +40,7 @@ returns-in-Ok-Blocks g c =
     let reads = c.take_rows.ensures.moves in
     let takes = c.in-Ok-Blocks.ensures.taken in
     let why = subst (λ (s : Stop). IsStop tells c.args.blocks opened before.seen.held old.beside old.merge mid.merge mid.built s) c.in-Ok-Blocks.field-0-is c.in-Ok-Blocks.ensures.stop in
-    waited spelling cutoff tells c.args.blocks opened old mid free before here c.take_rows.ensures.rest reads c.take_rows.ensures.level c.take_rows.ensures.numbers c.take_rows.ensures.stands c.take_rows.ensures.bounded
+    waited spelling cutoff tells c.args.blocks opened old mid free before here c.take_rows.ensures.rest reads c.take_rows.ensures.level c.take_rows.ensures.numbers c.take_rows.ensures.stands c.take_rows.ensures.twice c.take_rows.ensures.bounded
     takes.fewer (why c.requires.some)
     (λ t tables left made others held makes taken.
     waits standing spelling cutoff opened tables old mid left made others free before here tells t held makes taken takes reads sliced.Working (inl (why c.requires.some)))
@@ -59,7 +59,7 @@ returns-in-Err g c =
     let before = g.D.Disk.world c.args.disk.now in
     let here = g.D.Disk.world c.take_rows.new.disk in
     let reads = c.take_rows.ensures.moves in
-    took_no_row spelling cutoff tells c.args.blocks opened old mid free before here c.take_rows.ensures.rest reads c.take_rows.ensures.level c.take_rows.ensures.numbers c.take_rows.ensures.stands c.take_rows.ensures.bounded
+    took_no_row spelling cutoff tells c.args.blocks opened old mid free before here c.take_rows.ensures.rest reads c.take_rows.ensures.level c.take_rows.ensures.numbers c.take_rows.ensures.stands c.take_rows.ensures.twice c.take_rows.ensures.bounded
     c.in-Err.why c.in-Err.ensures.fault
     (λ t tables left made others held makes taken.
     take_refused c.standing_tables_are_read.ensures.blocks spelling (filter_bytes_of spelling cutoff) opened tables old left free before here tells t held (numbers old.merge.walks) c.in-Err.why c.in-Err.ensures.fault (c.in-Err.ensures.met t makes.sound))
@@ -87,7 +87,7 @@ returns-in-Ok g c =
     let full : is_full mid.beside mid.built ≡ true = subst (λ (n : ℕ). is_full n mid.built ≡ true) (sym (ap (λ (m : JobValue). m.beside) c.take_rows.ensures.rest)) why in
     let later = outputs_of (mid.beside - 1) (lasting mid.drops (rows_left mid.merge opened before.seen.held)) in
     let closes = c.in-Ok.ensures.closed in
-    closed_one spelling cutoff tells c.args.blocks opened old mid free before here c.take_rows.ensures.rest reads c.take_rows.ensures.level c.take_rows.ensures.numbers c.take_rows.ensures.stands c.take_rows.ensures.bounded new extents after c.close.ensures.merge c.close.ensures.same c.close.ensures.writes
+    closed_one spelling cutoff tells c.args.blocks opened old mid free before here c.take_rows.ensures.rest reads c.take_rows.ensures.level c.take_rows.ensures.numbers c.take_rows.ensures.stands c.take_rows.ensures.twice c.take_rows.ensures.bounded new extents after c.close.ensures.merge c.close.ensures.same c.close.ensures.writes
     (last_row new.outputs) closes takes.fewer full
     (λ t tables left made others held makes taken.
     let first = next_output standing spelling cutoff opened tables old mid left made others free before here tells t held makes taken takes reads full in
@@ -114,7 +114,7 @@ returns-in-Err-close g c =
     let after = g.D.Disk.world c.close.new.disk in
     let full : is_full mid.beside mid.built ≡ true = subst (λ (n : ℕ). is_full n mid.built ≡ true) (sym (ap (λ (m : JobValue). m.beside) c.take_rows.ensures.rest)) why in
     let later = outputs_of (mid.beside - 1) (lasting mid.drops (rows_left mid.merge opened before.seen.held)) in
-    closed_none spelling cutoff tells c.args.blocks opened old mid free before here c.take_rows.ensures.rest reads c.take_rows.ensures.level c.take_rows.ensures.numbers c.take_rows.ensures.stands c.take_rows.ensures.bounded new extents after c.close.ensures.merge c.close.ensures.same c.close.ensures.writes
+    closed_none spelling cutoff tells c.args.blocks opened old mid free before here c.take_rows.ensures.rest reads c.take_rows.ensures.level c.take_rows.ensures.numbers c.take_rows.ensures.stands c.take_rows.ensures.twice c.take_rows.ensures.bounded new extents after c.close.ensures.merge c.close.ensures.same c.close.ensures.writes
     (full_has old.beside mid.built why) c.in-Err-close.why c.in-Err-close.ensures.fault
     (λ t tables left made others held makes taken.
     let first = next_output standing spelling cutoff opened tables old mid left made others free before here tells t held makes taken takes reads full in
@@ -139,7 +139,7 @@ returns-then-is_empty g c =
     let why = subst (λ (s : Stop). IsStop tells c.args.blocks opened before.seen.held old.beside old.merge mid.merge mid.built s) c.in-Ok-End.field-0-is c.in-Ok-End.ensures.stop in
     let whole = sym takes.sources.drops_are ∙ subst (λ (m : JobValue). m.merge.drops ≡ false) c.self.view_is c.self.invariant.whole in
     let empty = subst (λ (m : JobValue). length m.built ≡ 0) c.self.view_is (no_length c.self.inside.built.entries (sym c.is_empty.ensures ∙ c.if-is_empty.true)) in
-    had_nothing spelling cutoff tells c.args.blocks opened old mid free before here c.take_rows.ensures.rest reads c.take_rows.ensures.level c.take_rows.ensures.numbers c.take_rows.ensures.stands c.take_rows.ensures.bounded
+    had_nothing spelling cutoff tells c.args.blocks opened old mid free before here c.take_rows.ensures.rest reads c.take_rows.ensures.level c.take_rows.ensures.numbers c.take_rows.ensures.stands c.take_rows.ensures.twice c.take_rows.ensures.bounded
     takes.fewer
     (λ t tables left made others held makes taken.
     let none = why t makes.sound in
@@ -166,7 +166,7 @@ returns-in-Ok-close g c =
     let whole = sym takes.sources.drops_are ∙ subst (λ (m : JobValue). m.merge.drops ≡ false) c.self.view_is c.self.invariant.whole in
     let some = subst (λ (m : JobValue). 0 < length m.built) c.self.view_is (some_length c.self.inside.built.entries (sym c.is_empty.ensures ∙ c.if-is_empty.false)) in
     let closes = c.in-Ok-close.ensures.closed in
-    closed_last spelling cutoff tells c.args.blocks opened old mid free before here c.take_rows.ensures.rest reads c.take_rows.ensures.level c.take_rows.ensures.numbers c.take_rows.ensures.stands c.take_rows.ensures.bounded new extents after c.close-in-Ok-End.ensures.merge c.close-in-Ok-End.ensures.same c.close-in-Ok-End.ensures.writes
+    closed_last spelling cutoff tells c.args.blocks opened old mid free before here c.take_rows.ensures.rest reads c.take_rows.ensures.level c.take_rows.ensures.numbers c.take_rows.ensures.stands c.take_rows.ensures.twice c.take_rows.ensures.bounded new extents after c.close-in-Ok-End.ensures.merge c.close-in-Ok-End.ensures.same c.close-in-Ok-End.ensures.writes
     (last_row new.outputs) closes takes.fewer
     (λ t tables left made others held makes taken.
     let none = why t makes.sound in
@@ -195,7 +195,7 @@ returns-in-Err-close-2 g c =
     let after = g.D.Disk.world c.close-in-Ok-End.new.disk in
     let whole = sym takes.sources.drops_are ∙ subst (λ (m : JobValue). m.merge.drops ≡ false) c.self.view_is c.self.invariant.whole in
     let some = subst (λ (m : JobValue). 0 < length m.built) c.self.view_is (some_length c.self.inside.built.entries (sym c.is_empty.ensures ∙ c.if-is_empty.false)) in
-    closed_none spelling cutoff tells c.args.blocks opened old mid free before here c.take_rows.ensures.rest reads c.take_rows.ensures.level c.take_rows.ensures.numbers c.take_rows.ensures.stands c.take_rows.ensures.bounded new extents after c.close-in-Ok-End.ensures.merge c.close-in-Ok-End.ensures.same c.close-in-Ok-End.ensures.writes
+    closed_none spelling cutoff tells c.args.blocks opened old mid free before here c.take_rows.ensures.rest reads c.take_rows.ensures.level c.take_rows.ensures.numbers c.take_rows.ensures.stands c.take_rows.ensures.twice c.take_rows.ensures.bounded new extents after c.close-in-Ok-End.ensures.merge c.close-in-Ok-End.ensures.same c.close-in-Ok-End.ensures.writes
     some c.in-Err-close-2.why c.in-Err-close-2.ensures.fault
     (λ t tables left made others held makes taken.
     let none = why t makes.sound in
