@@ -1,6 +1,6 @@
 -- What is chosen among the outlines of open tables names each of them once.
-use Rattle.std.proofs.Common.{◌≡◌, ◌≢◌, ℕ, zero, suc, ◌≤◌, ◌<◌, ◌+◌, ◌∙◌, List, [], ◌∷◌, ◌++◌, length, map, refl, sym, ap, subst, Bool, true, false, cond, arith}
-use Rattle.std.specs.Prelude.{Option, Some, nat_le, filter, take, ◌==◌}
+use Rattle.std.proofs.Common.{◌≡◌, ◌≢◌, ℕ, zero, suc, ◌<◌, ◌+◌, ◌∙◌, List, [], ◌∷◌, ◌++◌, length, map, sym, ap, subst, Bool, true, false, cond, arith}
+use Rattle.std.specs.Prelude.{Some, nat_le, filter, take, ◌==◌}
 use Rattle.std.specs.List.{AllByRecursion, AllPairs}
 use Rattle.extent_model.proofs.Lists.{Pairs, all_kept, all_pairs, all_pass}
 use Rattle.level_merge.specs.Outlines.{by_numbers, outline, outline_of, outlines, table_number}

@@ -4,7 +4,7 @@ use Rattle.std.specs.Prelude.{Some, None, Ok, Err, Result, IsOk}
 use Rattle.std.specs.List.Sorted.{IsPermutation}
 use Rattle.std.proofs.lemmas.List.{append-nil, drop-drop, length_push, map-append}
 use Rattle.disk_trait.specs.Image.{Image}
-use Rattle.disk_trait.specs.World.{Now, World}
+use Rattle.disk_trait.specs.World.{World}
 use Rattle.entry_model.specs.Entries.{Entry}
 use Rattle.extent_map.specs.Taken.{Taken}
 use Rattle.extent_model.proofs.AnyOrder.{first_same, largest_same}

@@ -1,6 +1,6 @@
 -- A merge that begins has room for each block of its tables.
-use Rattle.std.proofs.Common.{◌≡◌, ◌+◌, ◌-◌, ◌≤◌, ◌<◌, ℕ, zero, suc, List, [], ◌∷◌, length, map, refl, sym, ap, subst, arith}
-use Rattle.std.specs.Prelude.{Option, Some, None, slice_get}
+use Rattle.std.proofs.Common.{◌≡◌, ◌-◌, ◌<◌, ℕ, zero, suc, List, [], ◌∷◌, length, map, sym, ap, subst, arith}
+use Rattle.std.specs.Prelude.{Option, slice_get}
 use Rattle.map_model.specs.SortedMap.{Bytes}
 use Rattle.merge_rows.specs.Merges.{TableWalk, numbered, walk_at}
 use Rattle.merge_rows.specs.Steps.{AreNumbersIn, AreWalksIn, HasRoomFor, numbers, stands}
