@@ -1,5 +1,5 @@
 -- A slice, whole: rows were taken, and an output was closed behind them or was not.
-use Rattle.std.proofs.Common.{◌≡◌, ◌∙◌, ℕ, ◌+◌, ◌<◌, ◌≤◌, Bool, true, IsTrue, List, length, Ok, Err, ap, subst, sym}
+use Rattle.std.proofs.Common.{◌≡◌, ◌*◌, ◌∙◌, ℕ, ◌+◌, ◌<◌, ◌≤◌, Bool, true, IsTrue, List, length, Ok, Err, ap, subst, sym}
 use Rattle.disk_trait.specs.World.{ReadMoves, World}
 use Rattle.entry_model.specs.Entries.{Entry}
 use Rattle.extent_map.specs.Taken.{Taken}

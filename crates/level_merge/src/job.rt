@@ -1,5 +1,5 @@
 //! A merge that runs.
-ghost use Rattle.std.specs.Prelude.{◌≡◌, ◌≢◌, ◌==◌, ◌<◌, ◌≤◌, ◌-◌, ◌++◌, length, IsTrue, IfOk, IfErr, IfSome, OnOk, [], ◌∷◌};
+ghost use Rattle.std.specs.Prelude.{◌≡◌, ◌≢◌, ◌==◌, ◌<◌, ◌≤◌, ◌-◌, ◌*◌, ◌++◌, length, IsTrue, IfOk, IfErr, IfSome, OnOk, [], ◌∷◌};
 ghost use Rattle.std.specs.List.{AllByRecursion, list_any};
 ghost use Rattle.std.specs.Option.{option_map};
 ghost use Rattle.disk_trait.specs.World.{Now, ReadMoves};
