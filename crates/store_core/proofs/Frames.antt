@@ -1,5 +1,5 @@
 -- What is written apart from what is under a store, done or cut short, changes none of it.
-use Rattle.std.proofs.Common.{◌≡◌, inl, inr, ◌≤◌, ◌+◌, ℕ, zero, suc, List, [], ◌∷◌, ◌++◌, refl, sym, subst, arith}
+use Rattle.std.proofs.Common.{◌≡◌, inl, inr, ◌∙◌, ◌≤◌, ◌+◌, ℕ, zero, suc, List, [], ◌∷◌, ◌++◌, refl, sym, ap, subst, arith}
 use Rattle.std.specs.Prelude.{Option, Some, None, map}
 use Rattle.std.specs.List.{AllByRecursion}
 use Rattle.disk_trait.specs.Image.{Image, Torn}
@@ -19,8 +19,9 @@ use Rattle.state_model.specs.Taken.{extent_of, taken}
 use Rattle.state_model.specs.View.{state_map}
 use Rattle.table_file.specs.Opened.{Opened}
 use Rattle.table_file.specs.Search.{StandsThere}
-use Rattle.table_model.proofs.Kept.{at_kept}
+use Rattle.table_model.proofs.Kept.{at_kept, kept_pieces}
 use Rattle.table_model.specs.Laws.{IsApartFromRow}
+use Rattle.table_model.specs.Pieces.{index_of_pieces}
 use Rattle.table_model.specs.Tables.{Table}
 use Rattle.store_core.specs.StoreValue.{rows_of}
 use Rattle.level_merge.specs.FollowLaws.{OtherImageIsFollowed}
@@ -40,7 +41,7 @@ module _ (spelling : Spelling) (at n : ℕ) (f g : Image) (torn : Torn at n f g)
   stands_kept : (t : Opened) (blocks : List (List Entry)) → IsApartFromRow at n t.row → StandsThere spelling t blocks f → StandsThere spelling t blocks g
   stands_kept t blocks apart s = record {
     at = at_kept spelling t.row blocks at n f g apart torn s.at;
-    index_is = s.index_is;
+    index_is = s.index_is ∙ ap index_of_pieces (sym (kept_pieces spelling t.row blocks at n f g apart torn s.at));
     hash_is = s.hash_is;
     real_is = s.real_is;
     leaves_are = s.leaves_are;

@@ -21,6 +21,7 @@ use Rattle.manifest_model.specs.Laws.{IsVersion}
 use Rattle.manifest_model.specs.Rows.{extent_of}
 use Rattle.manifest_model.specs.Version.{Version}
 use Rattle.map_model.specs.SortedMap.{Bytes}
+use Rattle.merge_rows.proofs.Begins.{walks_known}
 use Rattle.merge_rows.specs.Merges.{walk_at}
 use Rattle.merge_rows.specs.Steps.{number_of_walk, numbers}
 use Rattle.state_model.specs.Merges.{Plan, choose}
@@ -133,7 +134,7 @@ begun_runs v tables p set version may =
     let same = numbers_from tables [] p.inputs in
     let many = sym (length-map (begun p set tables).merge.walks number_of_walk) ∙ ap length same in
     record {
-      numbers = subst (AllByRecursion (λ number. number < length tables)) (sym same) may.there;
+      numbers = walks_known p.inputs tables [] may.there;
       apart = subst (AllPairs (λ number other. number ≢ other)) (sym same) may.apart;
       written = refl;
       rows = tt;

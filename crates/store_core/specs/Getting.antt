@@ -27,7 +27,7 @@ use Rattle.store_core.specs.declared.getting.Spot.{Spot}
 use Rattle.store_core.specs.declared.getting.Spot.TheVariants as spot
 use Rattle.table_file.specs.Faults.{IsBlockDamage}
 use Rattle.table_file.specs.Opened.{Opened}
-use Rattle.table_file.specs.Search.{IsGetFault, block_for, largest_block}
+use Rattle.table_file.specs.Search.{IsGetFault, block_for}
 use Rattle.table_file.specs.declared.fault.TableFault.{TableFault}
 use Rattle.table_file.specs.declared.fault.TableFault.TheVariants as table
 use Rattle.table_model.specs.Tables.{FilterBytes, Table}
@@ -37,7 +37,7 @@ entries_by_table tables = map (λ (t : Table). t.entries) tables
 
 -- the first bytes of a buffer are a block that breaks no rule
 pub record IsBlockIn (size : ℕ) (buffer : Bytes) : Type 0 where
-  pub fits : size ≤ largest_block
+  pub fits : size ≤ length buffer
   pub whole : block_fault (take size buffer) ≡ None
 
 -- and they have an entry of the key

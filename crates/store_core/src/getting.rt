@@ -1,5 +1,5 @@
 //! What the store says of a key.
-ghost use Rattle.std.specs.Prelude.{◌≡◌, ◌≢◌, ◌≤◌, ◌<◌, ◌+◌, ℕ, List, length, take, is_some, Some, None, IsTrue, IfOk, IfErr, IfSome, OnErr};
+ghost use Rattle.std.specs.Prelude.{◌≡◌, ◌≢◌, ◌≤◌, ◌<◌, ◌+◌, ℕ, List, length, take, is_some, vec_capacity, Some, None, IsTrue, IfOk, IfErr, IfSome, OnErr};
 ghost use Rattle.std.specs.Option.{option_map};
 ghost use Rattle.std.specs.Borrow.{sem};
 ghost use Rattle.block_cache.specs.Kept.{kept_of};
@@ -23,6 +23,7 @@ ghost use Rattle.table_file.specs.Faults.{IsNoDamage};
 ghost use Rattle.table_file.specs.Search.{StandsThere, block_for, blocks_of_get, bytes_at, largest_block};
 ghost use Rattle.table_model.specs.Tables as model;
 
+use crate::buffer::lengthen;
 use crate::caching::CachedBlocks;
 use crate::error::StoreError;
 use crate::limits::check_key;
@@ -70,22 +71,20 @@ fn read_in<F: RangeFilter, D: Disk>(
     disk: &mut D,
     block: u32,
     key: &[u8],
-    buffer: &mut [u8],
+    buffer: &mut Vec<u8>,
 ) -> Result<(usize, bool), TableFault>
     requires named { block_for table.now key.now ≡ Some block }
-    requires room { largest_block ≤ length buffer.old }
-    ensures block { IfOk result (λ r. IsBlockIn r.0 buffer.new) }
-    ensures has { IfOk result (λ r. r.1 ≡ is_some (lookup (block_in (take r.0 buffer.new)) key.now)) }
-    ensures length { length buffer.new ≡ length buffer.old }
-    ensures bytes { IsTrue D.tells → IfOk result (λ r. take r.0 buffer.new ≡ bytes_at table.now block (D.world disk.old).seen.held) }
+    requires room { largest_block ≤ vec_capacity buffer.old }
+    ensures block { IfOk result (λ r. IsBlockIn r.0 buffer.new.items) }
+    ensures has { IfOk result (λ r. r.1 ≡ is_some (lookup (block_in (take r.0 buffer.new.items)) key.now)) }
+    ensures room { largest_block ≤ vec_capacity buffer.new }
+    ensures bytes { IsTrue D.tells → IfOk result (λ r. take r.0 buffer.new.items ≡ bytes_at table.now block (D.world disk.old).seen.held) }
     ensures undamaged { (blocks : List (List Entry)) → IsTrue D.tells → StandsThere F.spelling table.now blocks (D.world disk.old).seen.held → IfErr result IsNoDamage }
     ensures shown { IsTrue D.tells → IfErr result (IsBlockFault table.now key.now (D.world disk.old).seen.held) }
     ensures moves { ReadMoves 1 (D.world disk.old) (D.world disk.new) }
     ensures cause { IfErr result (IsLookFault (D.world disk.old) (D.world disk.new)) }
 {
-    // no block is larger than the largest
-    let room = table.block_bytes(block);
-    prove!(room <= buffer.len());
+    lengthen(buffer, table.block_bytes(block));
     table.read_and_find(disk, block, key, buffer)
 }
 
@@ -108,19 +107,19 @@ fn look_in<F: RangeFilter, D: Disk>(
     blocks: &mut CachedBlocks,
     disk: &mut D,
     key: &[u8],
-    buffer: &mut [u8],
+    buffer: &mut Vec<u8>,
 ) -> Result<Looked, TableFault>
-    requires room { largest_block ≤ length buffer.old }
-    ensures found { IfOk result (λ l. IfSome l.found (λ spot. IsFoundAt spot buffer.new blocks.new.kept key.now)) }
-    ensures read { IfOk result (λ l. IfSome l.read (λ r. (r.number ≡ number) × IsBlockIn r.size buffer.new × (kept_of (number, r.block) blocks.new.kept ≡ None))) }
-    ensures unread { IfOk result (λ l. l.read ≡ None → buffer.new ≡ buffer.old) }
-    ensures length { length buffer.new ≡ length buffer.old }
+    requires room { largest_block ≤ vec_capacity buffer.old }
+    ensures found { IfOk result (λ l. IfSome l.found (λ spot. IsFoundAt spot buffer.new.items blocks.new.kept key.now)) }
+    ensures read { IfOk result (λ l. IfSome l.read (λ r. (r.number ≡ number) × IsBlockIn r.size buffer.new.items × (kept_of (number, r.block) blocks.new.kept ≡ None))) }
+    ensures unread { IfOk result (λ l. l.read ≡ None → buffer.new.items ≡ buffer.old.items) }
+    ensures room { largest_block ≤ vec_capacity buffer.new }
     ensures same { AreSame blocks.old blocks.new }
     ensures answer { (parts : List (List Entry)) → IsTrue D.tells → StandsThere F.spelling table.now parts (D.world disk.old).seen.held
         → ((n : ℕ) (bytes : Bytes) → kept_of (number, n) blocks.old.kept ≡ Some bytes → SaysOf n bytes table.now (joined parts))
-        → IfOk result (λ l. said_in l.found buffer.new blocks.new.kept key.now ≡ lookup (joined parts) key.now) }
+        → IfOk result (λ l. said_in l.found buffer.new.items blocks.new.kept key.now ≡ lookup (joined parts) key.now) }
     ensures says { (parts : List (List Entry)) → IsTrue D.tells → StandsThere F.spelling table.now parts (D.world disk.old).seen.held
-        → IfOk result (λ l. IfSome l.read (λ r. SaysOf r.block (take r.size buffer.new) table.now (joined parts))) }
+        → IfOk result (λ l. IfSome l.read (λ r. SaysOf r.block (take r.size buffer.new.items) table.now (joined parts))) }
     ensures undamaged { (parts : List (List Entry)) → IsTrue D.tells → StandsThere F.spelling table.now parts (D.world disk.old).seen.held → IfErr result IsNoDamage }
     ensures shown { IsTrue D.tells → IfErr result (IsBlockFault table.now key.now (D.world disk.old).seen.held) }
     ensures only_if_read { OnErr result (1 ≤ blocks_of_get (block_for table.now key.now)) }
@@ -154,18 +153,18 @@ fn look_in_all<F: RangeFilter, D: Disk>(
     blocks: &mut CachedBlocks,
     disk: &mut D,
     key: &[u8],
-    buffer: &mut [u8],
+    buffer: &mut Vec<u8>,
 ) -> Result<Looked, TableFault>
-    requires room { largest_block ≤ length buffer.old }
-    ensures found { IfOk result (λ l. IfSome l.found (λ spot. IsFoundAt spot buffer.new blocks.new.kept key.now)) }
-    ensures read { IfOk result (λ l. IfSome l.read (λ r. IsReadIn r buffer.new blocks.new (length tables.now))) }
-    ensures unread { IfOk result (λ l. l.read ≡ None → buffer.new ≡ buffer.old) }
-    ensures length { length buffer.new ≡ length buffer.old }
+    requires room { largest_block ≤ vec_capacity buffer.old }
+    ensures found { IfOk result (λ l. IfSome l.found (λ spot. IsFoundAt spot buffer.new.items blocks.new.kept key.now)) }
+    ensures read { IfOk result (λ l. IfSome l.read (λ r. IsReadIn r buffer.new.items blocks.new (length tables.now))) }
+    ensures unread { IfOk result (λ l. l.read ≡ None → buffer.new.items ≡ buffer.old.items) }
+    ensures room { largest_block ≤ vec_capacity buffer.new }
     ensures same { AreSame blocks.old blocks.new }
     ensures answer { (states : List model.Table) → IsTrue D.tells → TablesAgree F.spelling tables.now states (D.world disk.old).seen.held → CacheAgrees blocks.old tables.now states
-        → IfOk result (λ l. said_in l.found buffer.new blocks.new.kept key.now ≡ first_found (entries_by_table states) key.now) }
+        → IfOk result (λ l. said_in l.found buffer.new.items blocks.new.kept key.now ≡ first_found (entries_by_table states) key.now) }
     ensures says { (states : List model.Table) → IsTrue D.tells → TablesAgree F.spelling tables.now states (D.world disk.old).seen.held
-        → IfOk result (λ l. IfSome l.read (λ r. r.number < past_cache → BlockAgrees blocks.old.first (r.number, r.block) (take r.size buffer.new) tables.now states)) }
+        → IfOk result (λ l. IfSome l.read (λ r. r.number < past_cache → BlockAgrees blocks.old.first (r.number, r.block) (take r.size buffer.new.items) tables.now states)) }
     ensures undamaged { (states : List model.Table) → IsTrue D.tells → TablesAgree F.spelling tables.now states (D.world disk.old).seen.held → IfErr result IsNoDamage }
     ensures shown { IsTrue D.tells → IfErr result (IsFaultIn tables.now key.now (D.world disk.old).seen.held) }
     ensures bounded { (states : List model.Table) → IsTrue D.tells → TablesAgree F.spelling tables.now states (D.world disk.old).seen.held → CacheAgrees blocks.old tables.now states
@@ -197,8 +196,7 @@ fn look_in_all<F: RangeFilter, D: Disk>(
 
 // Keeps the block that was read last, where one was.
 fn keep_read(alloc: Global, blocks: &mut CachedBlocks, buffer: &[u8], read: Option<BlockRead>)
-    requires sound { IfSome read (λ r. IsBlockIn r.size buffer.now) }
-    requires within { IfSome read (λ r. r.size ≤ length buffer.now) }
+    requires { IfSome read (λ r. IsBlockIn r.size buffer.now) }
     ensures { MayKeepRead read buffer.now blocks.old blocks.new }
 {
     if let Some(read) = read {
@@ -214,17 +212,17 @@ fn look_and_keep<F: RangeFilter, D: Disk>(
     blocks: &mut CachedBlocks,
     disk: &mut D,
     key: &[u8],
-    buffer: &mut [u8],
+    buffer: &mut Vec<u8>,
 ) -> Result<Option<Spot>, TableFault>
-    requires room { largest_block ≤ length buffer.old }
-    ensures place { IfOk result (λ found. IfSome found (λ spot. IsSpotIn spot buffer.new)) }
-    ensures length { length buffer.new ≡ length buffer.old }
+    requires room { largest_block ≤ vec_capacity buffer.old }
+    ensures place { IfOk result (λ found. IfSome found (λ spot. IsSpotIn spot buffer.new.items)) }
+    ensures room { largest_block ≤ vec_capacity buffer.new }
     ensures kept { LeavesKept blocks.old blocks.new }
     ensures numbered { AreNumbered blocks.old (length tables.now) → AreNumbered blocks.new (length tables.now) }
     ensures keeps { (states : List model.Table) → IsTrue D.tells → TablesAgree F.spelling tables.now states (D.world disk.old).seen.held → CacheAgrees blocks.old tables.now states
         → CacheAgrees blocks.new tables.now states }
     ensures answer { (states : List model.Table) → IsTrue D.tells → TablesAgree F.spelling tables.now states (D.world disk.old).seen.held → CacheAgrees blocks.old tables.now states
-        → IfOk result (λ found. said_in found buffer.new blocks.new.kept key.now ≡ first_found (entries_by_table states) key.now) }
+        → IfOk result (λ found. said_in found buffer.new.items blocks.new.kept key.now ≡ first_found (entries_by_table states) key.now) }
     ensures undamaged { (states : List model.Table) → IsTrue D.tells → TablesAgree F.spelling tables.now states (D.world disk.old).seen.held → IfErr result IsNoDamage }
     ensures shown { IsTrue D.tells → IfErr result (IsFaultIn tables.now key.now (D.world disk.old).seen.held) }
     ensures bounded { (states : List model.Table) → IsTrue D.tells → TablesAgree F.spelling tables.now states (D.world disk.old).seen.held → CacheAgrees blocks.old tables.now states

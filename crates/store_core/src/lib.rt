@@ -25,6 +25,7 @@
 //! ```
 #![tactic(auto)]
 
+mod buffer;
 mod caching;
 mod compacting;
 mod counting;

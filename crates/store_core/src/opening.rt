@@ -156,7 +156,7 @@ impl<F: RangeFilter> Store<F> {
         ensures cause { IfErr result (λ why. why ≡ StoreError.Memory) }
     {
         let memory = MemTable::fill(entries)?;
-        let buffer = vec![in alloc; 0; LARGEST_BLOCK_BYTES]?;
+        let buffer = Vec::with_capacity(alloc, LARGEST_BLOCK_BYTES)?;
         let blocks = CachedBlocks::new(alloc)?;
         Ok(Store {
             stopped: false,

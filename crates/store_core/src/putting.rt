@@ -1,5 +1,5 @@
 //! Entries that are written.
-ghost use Rattle.std.specs.Prelude.{◌≡◌, ◌≤◌, ◌+◌, ◌*◌, ◌||◌, Bool, true, false, Some, None, IsTrue, IfErr, OnOk, MatchResult};
+ghost use Rattle.std.specs.Prelude.{◌≡◌, ◌≤◌, ◌+◌, ◌*◌, ◌||◌, Bool, length, vec_capacity, true, false, Some, None, IsTrue, IfErr, OnOk, MatchResult};
 ghost use Rattle.block_model.specs.Pages.{page_bytes};
 ghost use Rattle.disk_trait.specs.World.{ReadMoves, WriteMoves};
 ghost use Rattle.entry_model.specs.Entries.{IsLogged, del_entry, entry_of, need, put_entry};
@@ -15,8 +15,10 @@ ghost use Rattle.store_core.specs.Framing.{IsBesideRecord, IsInUse, LeavesPlaces
 ghost use Rattle.store_core.specs.Refusing.{IsEntryAllowed, IsWriteDue};
 ghost use Rattle.store_core.specs.Represents.{Represents};
 ghost use Rattle.store_core.specs.Staying.{Stays};
+ghost use Rattle.table_file.specs.Search.{largest_block};
 ghost use Rattle.table_model.specs.Tables.{filter_bytes_of};
 
+use crate::buffer::lengthen;
 use crate::error::StoreError;
 use crate::limits::{check_key, check_value};
 use crate::store::Store;
@@ -25,6 +27,17 @@ use entry_list::Entry;
 use filter_api::RangeFilter;
 use gate_log::record_need;
 use level_merge::jobs_are_followed;
+
+// Gives a buffer the bytes in which the record of an entry is built.
+fn lengthen_for(buffer: &mut Vec<u8>, entry: &Entry)
+    requires sound { IsLogged entry.now }
+    requires fits { need entry.now ≤ log_bytes }
+    requires room { largest_block ≤ vec_capacity buffer.old }
+    ensures many { need entry.now ≤ length buffer.new.items }
+    ensures room { largest_block ≤ vec_capacity buffer.new }
+{
+    lengthen(buffer, record_need(entry.key(), entry.value()));
+}
 
 impl<F: RangeFilter> Store<F> {
     /// Sets the value of a key.
@@ -120,6 +133,7 @@ impl<F: RangeFilter> Store<F> {
     {
         // the law of merges: what is written elsewhere leaves the one that runs as it is
         jobs_are_followed();
+        lengthen_for(&mut self.buffer, &entry);
         match self
             .log
             .append(disk, &mut self.buffer, entry.key(), entry.value())

@@ -11,7 +11,7 @@ ghost use Rattle.map_model.specs.Slices.{between, first_pair, is_up_to, slice};
 ghost use Rattle.map_model.specs.SortedMap.{Bytes, Map};
 ghost use Rattle.merge_rows.specs.Merges.{rows_left};
 ghost use Rattle.merge_rows.specs.Reads.{OnlyReads, SomeBlock};
-ghost use Rattle.merge_rows.specs.Steps.{AreNumbersIn, AreWalksIn, IsSoundMerge, SourcesStay, numbers, stands};
+ghost use Rattle.merge_rows.specs.Steps.{AreWalksIn, IsSoundMerge, SourcesStay, numbers, stands};
 ghost use Rattle.state_model.specs.Bounds.{seek_bound};
 ghost use Rattle.state_model.specs.State.{State};
 ghost use Rattle.state_model.specs.View.{state_map};
@@ -52,7 +52,7 @@ impl<'s, F: RangeFilter> Model for Scan<'s, F> {
     ghost use Rattle.std.specs.Prelude.{◌≡◌, false, None, if◌then◌else◌};
     ghost use Rattle.std.specs.Option.{option_and_then, option_map};
     ghost use Rattle.entry_model.specs.Entries.{Entry};
-    ghost use Rattle.merge_rows.specs.Steps.{AreNumbersIn, AreWalksIn, numbers, stands};
+    ghost use Rattle.merge_rows.specs.Steps.{AreWalksIn, stands};
     ghost use Rattle.store_core.specs.Scans.{ScanWalk, pair_at};
 
     ghost Value = { ScanWalk };

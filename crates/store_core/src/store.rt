@@ -22,14 +22,14 @@ pub struct Store<F: RangeFilter> {
     pub(crate) job: Option<Job<'static, F>>,
     pub(crate) log: Log,
     pub(crate) memory: MemTable,
-    // room for the largest block, in which records are built too
+    // room for the largest block, in which records are built too; so many bytes as the largest one had that stood there
     pub(crate) buffer: Vec<u8>,
     // those that were read last by gets
     pub(crate) blocks: CachedBlocks,
 }
 
 impl<F: RangeFilter> Model for Store<F> {
-    ghost use Rattle.std.specs.Prelude.{◌≡◌, vec_len};
+    ghost use Rattle.std.specs.Prelude.{◌≤◌, vec_capacity};
     ghost use Rattle.store_core.specs.StoreValue.{IsConsistent, StoreValue};
     ghost use Rattle.table_file.specs.Search.{largest_block};
 
@@ -38,7 +38,7 @@ impl<F: RangeFilter> Model for Store<F> {
     ghost view = { λ s. record { stopped = s.stopped; manifest = s.version; tables = s.tables.tables; job = s.job; log = s.log; memory = s.memory; buffer = s.buffer.items; blocks = s.blocks } };
 
     ghost invariant = { λ s. IsConsistent (record { stopped = s.stopped; manifest = s.version; tables = s.tables.tables; job = s.job; log = s.log; memory = s.memory; buffer = s.buffer.items; blocks = s.blocks })
-        × (vec_len s.buffer ≡ largest_block) };
+        × (largest_block ≤ vec_capacity s.buffer) };
 }
 
 impl<F: RangeFilter> Store<F> {

@@ -50,8 +50,8 @@ returns-then-is_some-clause-read g t c =
     let blocks = c.args.blocks.now in
     let more = c.in-Some.older.now in
     let num : c.number-number.result ≡ cache_number blocks.first (length more) = c.number-number.ensures in
-    subst (λ (ts : List Opened). IfSome c.in_ok-here.here.read (λ r. IsReadIn r c.look_in.new.buffer c.look_in.new.blocks (length ts))) (sym c.in-Some.ensures.cases.0)
-    (read_first c.in_ok-here.here.read c.look_in.new.buffer c.look_in.new.blocks c.number-number.result (length more) (num ∙ ap (λ (n : ℕ). cache_number n (length more)) (sym c.look_in.ensures.same.first)) c.in_ok-here.ensures.read)
+    subst (λ (ts : List Opened). IfSome c.in_ok-here.here.read (λ r. IsReadIn r c.look_in.new.buffer.items c.look_in.new.blocks (length ts))) (sym c.in-Some.ensures.cases.0)
+    (read_first c.in_ok-here.here.read c.look_in.new.buffer.items c.look_in.new.blocks c.number-number.result (length more) (num ∙ ap (λ (n : ℕ). cache_number n (length more)) (sym c.look_in.ensures.same.first)) c.in_ok-here.ensures.read)
 
 pub returns-then-is_some-clause-answer : goal.returns-then-is_some-clause-answer
 returns-then-is_some-clause-answer g t c states tells held are =
@@ -62,11 +62,11 @@ returns-then-is_some-clause-answer g t c states tells held are =
     let first = c.in-Some.table.now in
     let more = c.in-Some.older.now in
     let num : c.number-number.result ≡ cache_number blocks.first (length more) = c.number-number.ensures in
-    let said = said_in c.in_ok-here.here.found c.look_in.new.buffer c.look_in.new.blocks.kept key in
+    let said = said_in c.in_ok-here.here.found c.look_in.new.buffer.items c.look_in.new.blocks.kept key in
     by_first spelling first more image (λ ts us. CacheAgrees blocks ts us → said ≡ first_found (entries_by_table us) key)
     (λ one older h rest ours. said_first spelling first one older image h key said
     (c.in_ok-here.ensures.answer h.blocks tells h.stands (says_of_number spelling first more one older image h blocks c.number-number.result num ours))
-    (found_said c.in_ok-here.here.found c.look_in.new.buffer c.look_in.new.blocks.kept key (sym c.is_some.ensures ∙ c.if-is_some.true) c.in_ok-here.ensures.found))
+    (found_said c.in_ok-here.here.found c.look_in.new.buffer.items c.look_in.new.blocks.kept key (sym c.is_some.ensures ∙ c.if-is_some.true) c.in_ok-here.ensures.found))
     c.args.tables.now states c.in-Some.ensures.cases.0 held are
 
 pub returns-then-is_some-clause-says : goal.returns-then-is_some-clause-says
@@ -78,8 +78,8 @@ returns-then-is_some-clause-says g t c states tells held =
     let more = c.in-Some.older.now in
     let num : c.number-number.result ≡ cache_number blocks.first (length more) = c.number-number.ensures in
     by_first spelling first more image
-    (λ ts us. IfSome c.in_ok-here.here.read (λ r. r.number < past_cache → BlockAgrees blocks.first (r.number, r.block) (take r.size c.look_in.new.buffer) ts us))
-    (λ one older h rest. read_true spelling first more one older image h blocks c.number-number.result num c.in_ok-here.here.read c.look_in.new.buffer c.look_in.new.blocks c.in_ok-here.ensures.read
+    (λ ts us. IfSome c.in_ok-here.here.read (λ r. r.number < past_cache → BlockAgrees blocks.first (r.number, r.block) (take r.size c.look_in.new.buffer.items) ts us))
+    (λ one older h rest. read_true spelling first more one older image h blocks c.number-number.result num c.in_ok-here.here.read c.look_in.new.buffer.items c.look_in.new.blocks c.in_ok-here.ensures.read
     (c.in_ok-here.ensures.says h.blocks tells h.stands))
     c.args.tables.now states c.in-Some.ensures.cases.0 held
 
@@ -109,15 +109,15 @@ returns-clause-read g t c =
     let blocks = c.args.blocks.now in
     let more = c.in-Some.older.now in
     let num : c.number-number.result ≡ cache_number blocks.first (length more) = c.number-number.ensures in
-    subst (λ (ts : List Opened). IfSome c.or.result (λ r. IsReadIn r c.look_in_all.new.buffer c.look_in_all.new.blocks (length ts))) (sym c.in-Some.ensures.cases.0)
-    (subst (λ (o : Option BlockRead). IfSome o (λ r. IsReadIn r c.look_in_all.new.buffer c.look_in_all.new.blocks (suc (length more)))) (sym c.or.ensures)
-    (read_later blocks c.look_in.new.blocks c.look_in_all.new.blocks c.look_in.ensures.same c.look_in_all.ensures.same c.number-number.result (length more) num c.look_in.new.buffer c.look_in_all.new.buffer
+    subst (λ (ts : List Opened). IfSome c.or.result (λ r. IsReadIn r c.look_in_all.new.buffer.items c.look_in_all.new.blocks (length ts))) (sym c.in-Some.ensures.cases.0)
+    (subst (λ (o : Option BlockRead). IfSome o (λ r. IsReadIn r c.look_in_all.new.buffer.items c.look_in_all.new.blocks (suc (length more)))) (sym c.or.ensures)
+    (read_later blocks c.look_in.new.blocks c.look_in_all.new.blocks c.look_in.ensures.same c.look_in_all.ensures.same c.number-number.result (length more) num c.look_in.new.buffer.items c.look_in_all.new.buffer.items
     c.in_ok-later.later.read c.in_ok-here.here.read c.in_ok-later.ensures.read c.in_ok-later.ensures.unread c.in_ok-here.ensures.read))
 
 pub returns-clause-unread : goal.returns-clause-unread
 returns-clause-unread g t c none =
-    unread_both c.args.blocks.now c.look_in.new.blocks c.look_in_all.new.blocks c.look_in.ensures.same c.look_in_all.ensures.same c.number-number.result (length c.in-Some.older.now) c.number-number.ensures c.look_in.new.buffer c.look_in_all.new.buffer
-    c.in_ok-later.later.read c.in_ok-here.here.read c.args.buffer.now c.in_ok-later.ensures.unread c.in_ok-here.ensures.unread (sym c.or.ensures ∙ none)
+    unread_both c.args.blocks.now c.look_in.new.blocks c.look_in_all.new.blocks c.look_in.ensures.same c.look_in_all.ensures.same c.number-number.result (length c.in-Some.older.now) c.number-number.ensures c.look_in.new.buffer.items c.look_in_all.new.buffer.items
+    c.in_ok-later.later.read c.in_ok-here.here.read c.args.buffer.now.items c.in_ok-later.ensures.unread c.in_ok-here.ensures.unread (sym c.or.ensures ∙ none)
 
 pub returns-clause-answer : goal.returns-clause-answer
 returns-clause-answer g t c states tells held are =
@@ -128,8 +128,8 @@ returns-clause-answer g t c states tells held are =
     let first = c.in-Some.table.now in
     let more = c.in-Some.older.now in
     let num : c.number-number.result ≡ cache_number blocks.first (length more) = c.number-number.ensures in
-    let said = said_in c.in_ok-later.later.found c.look_in_all.new.buffer c.look_in_all.new.blocks.kept key in
-    let nothing = nothing_said c.in_ok-here.here.found c.look_in.new.buffer c.look_in.new.blocks.kept key (sym c.is_some.ensures ∙ c.if-is_some.false) in
+    let said = said_in c.in_ok-later.later.found c.look_in_all.new.buffer.items c.look_in_all.new.blocks.kept key in
+    let nothing = nothing_said c.in_ok-here.here.found c.look_in.new.buffer.items c.look_in.new.blocks.kept key (sym c.is_some.ensures ∙ c.if-is_some.false) in
     by_first spelling first more image (λ ts us. CacheAgrees blocks ts us → said ≡ first_found (entries_by_table us) key)
     (λ one older h rest ours.
     let says = c.in_ok-here.ensures.answer h.blocks tells h.stands (says_of_number spelling first more one older image h blocks c.number-number.result num ours) in
@@ -146,14 +146,14 @@ returns-clause-says g t c states tells held =
     let first = c.in-Some.table.now in
     let more = c.in-Some.older.now in
     let num : c.number-number.result ≡ cache_number blocks.first (length more) = c.number-number.ensures in
-    subst (λ (o : Option BlockRead). IfSome o (λ r. r.number < past_cache → BlockAgrees blocks.first (r.number, r.block) (take r.size c.look_in_all.new.buffer) c.args.tables.now states)) (sym c.or.ensures)
+    subst (λ (o : Option BlockRead). IfSome o (λ r. r.number < past_cache → BlockAgrees blocks.first (r.number, r.block) (take r.size c.look_in_all.new.buffer.items) c.args.tables.now states)) (sym c.or.ensures)
     (by_first spelling first more image
-    (λ ts us. IfSome (option_or c.in_ok-later.later.read c.in_ok-here.here.read) (λ r. r.number < past_cache → BlockAgrees blocks.first (r.number, r.block) (take r.size c.look_in_all.new.buffer) ts us))
-    (λ one older h rest. true_later blocks first more one older c.look_in.new.buffer c.look_in_all.new.buffer c.look_in.new.blocks c.look_in_all.new.blocks c.in_ok-later.later.read c.in_ok-here.here.read
+    (λ ts us. IfSome (option_or c.in_ok-later.later.read c.in_ok-here.here.read) (λ r. r.number < past_cache → BlockAgrees blocks.first (r.number, r.block) (take r.size c.look_in_all.new.buffer.items) ts us))
+    (λ one older h rest. true_later blocks first more one older c.look_in.new.buffer.items c.look_in_all.new.buffer.items c.look_in.new.blocks c.look_in_all.new.blocks c.in_ok-later.later.read c.in_ok-here.here.read
     c.look_in.ensures.same c.look_in_all.ensures.same c.in_ok-later.ensures.read
     (c.in_ok-later.ensures.says older tells (subst (TablesAgree spelling more older) (sym c.look_in.ensures.moves.held) rest))
     c.in_ok-later.ensures.unread
-    (read_true spelling first more one older image h blocks c.number-number.result num c.in_ok-here.here.read c.look_in.new.buffer c.look_in.new.blocks c.in_ok-here.ensures.read
+    (read_true spelling first more one older image h blocks c.number-number.result num c.in_ok-here.here.read c.look_in.new.buffer.items c.look_in.new.blocks c.in_ok-here.ensures.read
     (c.in_ok-here.ensures.says h.blocks tells h.stands)))
     c.args.tables.now states c.in-Some.ensures.cases.0 held)
 
@@ -169,7 +169,7 @@ returns-in_err-later-clause-bounded g t c states tells held are =
     let more = c.in-Some.older.now in
     let num : c.number-number.result ≡ cache_number blocks.first (length more) = c.number-number.ensures in
     let reads = subst (λ (k : ℕ). mid.seen.reads ≤ old.seen.reads + reads_for blocks.kept k (block_for first key)) num c.look_in.ensures.moves.reads in
-    let nothing = nothing_said c.in_ok-here.here.found c.look_in.new.buffer c.look_in.new.blocks.kept key (sym c.is_some.ensures ∙ c.if-is_some.false) in
+    let nothing = nothing_said c.in_ok-here.here.found c.look_in.new.buffer.items c.look_in.new.blocks.kept key (sym c.is_some.ensures ∙ c.if-is_some.false) in
     by_first spelling first more old.seen.held (λ ts us. CacheAgrees blocks ts us → new.seen.reads ≤ old.seen.reads + unkept blocks key ts us)
     (λ one older h rest ours.
     let says = c.in_ok-here.ensures.answer h.blocks tells h.stands (says_of_number spelling first more one older old.seen.held h blocks c.number-number.result num ours) in
@@ -191,7 +191,7 @@ returns-clause-bounded g t c states tells held are =
     let more = c.in-Some.older.now in
     let num : c.number-number.result ≡ cache_number blocks.first (length more) = c.number-number.ensures in
     let reads = subst (λ (k : ℕ). mid.seen.reads ≤ old.seen.reads + reads_for blocks.kept k (block_for first key)) num c.look_in.ensures.moves.reads in
-    let nothing = nothing_said c.in_ok-here.here.found c.look_in.new.buffer c.look_in.new.blocks.kept key (sym c.is_some.ensures ∙ c.if-is_some.false) in
+    let nothing = nothing_said c.in_ok-here.here.found c.look_in.new.buffer.items c.look_in.new.blocks.kept key (sym c.is_some.ensures ∙ c.if-is_some.false) in
     by_first spelling first more old.seen.held (λ ts us. CacheAgrees blocks ts us → new.seen.reads ≤ old.seen.reads + unkept blocks key ts us)
     (λ one older h rest ours.
     let says = c.in_ok-here.ensures.answer h.blocks tells h.stands (says_of_number spelling first more one older old.seen.held h blocks c.number-number.result num ours) in
@@ -210,7 +210,7 @@ returns-in_err-later-clause-only_if_read g t c states tells held are =
     let first = c.in-Some.table.now in
     let more = c.in-Some.older.now in
     let num : c.number-number.result ≡ cache_number blocks.first (length more) = c.number-number.ensures in
-    let nothing = nothing_said c.in_ok-here.here.found c.look_in.new.buffer c.look_in.new.blocks.kept key (sym c.is_some.ensures ∙ c.if-is_some.false) in
+    let nothing = nothing_said c.in_ok-here.here.found c.look_in.new.buffer.items c.look_in.new.blocks.kept key (sym c.is_some.ensures ∙ c.if-is_some.false) in
     let here : 1 ≤ searched key states =
     by_first spelling first more old.seen.held (λ ts us. CacheAgrees blocks ts us → 1 ≤ searched key us)
     (λ one older h rest ours.

@@ -35,7 +35,7 @@ find_kept-found-requires g c = record {
 }
 
 pub returns-then-has-clause-found : goal.returns-then-has-clause-found
-returns-then-has-clause-found g c = IfSome_then c.find_kept-found.result c.find_kept-found.ensures.found (λ at is. is c.args.buffer.now)
+returns-then-has-clause-found g c = IfSome_then c.find_kept-found.result c.find_kept-found.ensures.found (λ at is. is c.args.buffer.now.items)
 
 pub returns-then-has-clause-same : goal.returns-then-has-clause-same
 returns-then-has-clause-same g c = subst (AreSame c.args.blocks.now) (sym c.has.ensures.brought) (brought_same (c.args.number, c.in-Some.block) c.args.blocks.now)
@@ -45,7 +45,7 @@ returns-then-has-clause-answer g c parts tells s are =
     let place : BlockPlace = (c.args.number, c.in-Some.block) in
     let key = c.args.key.now in
     let kept = ap (λ (x : Cached). kept_of place x.kept) c.has.ensures.brought ∙ get_same place place c.args.blocks.now.kept in
-    c.find_kept-found.ensures.said c.args.buffer.now ∙ ap (λ (o : Option Bytes). said_by o key) kept
+    c.find_kept-found.ensures.said c.args.buffer.now.items ∙ ap (λ (o : Option Bytes). said_by o key) kept
     ∙ said_kept (kept_of place c.args.blocks.now.kept) key _ (sym c.has.ensures.is_kept ∙ c.if-has.true) (λ bytes is. are c.in-Some.block bytes is key (sym c.block_for.ensures ∙ c.in-Some.is))
 
 pub returns-then-has-clause-moves : goal.returns-then-has-clause-moves
@@ -79,8 +79,8 @@ returns-clause-moves g c =
 
 pub returns-clause-found : goal.returns-clause-found
 returns-clause-found g c =
-    subst (λ (o : Option Spot). IfSome o (λ at. IsFoundAt at c.read_in.new.buffer c.has.new.self.kept c.args.key.now)) (sym c.then_some.ensures)
-    (found_read c.in_ok-size.size c.read_in.new.buffer c.args.key.now c.has.new.self.kept c.in_ok-size.has c.in_ok-size.ensures.block c.in_ok-size.ensures.has)
+    subst (λ (o : Option Spot). IfSome o (λ at. IsFoundAt at c.read_in.new.buffer.items c.has.new.self.kept c.args.key.now)) (sym c.then_some.ensures)
+    (found_read c.in_ok-size.size c.read_in.new.buffer.items c.args.key.now c.has.new.self.kept c.in_ok-size.has c.in_ok-size.ensures.block c.in_ok-size.ensures.has)
 
 pub returns-clause-read : goal.returns-clause-read
 returns-clause-read g c =
@@ -91,8 +91,8 @@ returns-clause-read g c =
 pub returns-clause-answer : goal.returns-clause-answer
 returns-clause-answer g c parts tells s are =
     let key = c.args.key.now in
-    ap (λ (o : Option Spot). said_in o c.read_in.new.buffer c.has.new.self.kept key) c.then_some.ensures
-    ∙ said_read c.in_ok-size.size c.read_in.new.buffer key c.has.new.self.kept c.in_ok-size.has c.in_ok-size.ensures.has
+    ap (λ (o : Option Spot). said_in o c.read_in.new.buffer.items c.has.new.self.kept key) c.then_some.ensures
+    ∙ said_read c.in_ok-size.size c.read_in.new.buffer.items key c.has.new.self.kept c.in_ok-size.has c.in_ok-size.ensures.has
     ∙ answer g.F.RangeFilter.spelling c.args.table.now parts _ s key c.in-Some.block (sym c.block_for.ensures ∙ c.in-Some.is) _ (c.in_ok-size.ensures.bytes tells)
 
 pub returns-clause-says : goal.returns-clause-says

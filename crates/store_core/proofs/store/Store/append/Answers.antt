@@ -1,7 +1,7 @@
 use Rattle.std.proofs.Common.{◌≡◌, ◌≤◌, ◌+◌, ◌*◌, ◌++◌, ◌∷◌, [], ◌∙◌, refl, sym, ap, subst, arith, true}
 use Rattle.std.specs.Prelude.{Option}
 use Rattle.disk_trait.specs.World.{WriteMoves}
-use Rattle.entry_model.specs.Entries.{Entry, IsEntry, entry_of, need}
+use Rattle.entry_model.specs.Entries.{Entry, IsLogged, entry_of, need}
 use Rattle.log_model.proofs.Logs.{all_push}
 use Rattle.log_model.specs.Area.{start_of}
 use Rattle.map_model.specs.SortedMap.{Bytes}
@@ -32,7 +32,7 @@ invariant_of-self g c =
         area = whole.area ∙ ap (λ (n : _). 64 * (n + 1)) (sym c.append.ensures.area);
         entries = record {
           entries = before.entries ++ e ∷ [];
-          sound = all_push IsEntry before.entries e before.sound c.requires.sound;
+          sound = all_push IsLogged before.entries e before.sound c.requires.sound;
           fits = omega (arith, filled_is, more, fits);
           filled_is = filled_is;
           memory_is = c.set.ensures.newest before.entries before.memory_is;
@@ -40,7 +40,7 @@ invariant_of-self g c =
         job = whole.job;
         numbered = whole.numbered;
       },
-      c.self.invariant.1,
+      c.lengthen_for.ensures.room,
     )
 
 pub returns-in-Ok-clause-turns : goal.returns-in-Ok-clause-turns

@@ -121,8 +121,8 @@ returns-clause-answer g c s tells tied =
     let held = held_of spelling bytes g.D.Disk.tells c.args.self.now key opened c.self.inside.blocks w later tables blocks current s tells tied in
     let are = true_of spelling bytes g.D.Disk.tells c.args.self.now key opened c.self.inside.blocks w later tables blocks current s tied in
     let none = no_memory _ c.get.result c.is_some.result c.self.inside.memory.entries s key c.get.ensures c.is_some.ensures c.if-is_some.false (ap (λ (k : StoreValue). k.memory.entries) c.self.view_is ∙ tied.memory) in
-    found_view c.place_of.result _ s key c.in_ok-found.found c.look_and_keep.new.buffer c.look_and_keep.new.blocks.kept c.place_of.ensures.said
-    (written_whole c.self.inside.buffer.len c.look_and_keep.new.buffer _ (search rules)) refl none
+    found_view c.place_of.result _ s key c.in_ok-found.found c.look_and_keep.new.buffer.items c.look_and_keep.new.blocks.kept c.place_of.ensures.said
+    refl refl none
     (c.in_ok-found.ensures.answer s.tables tells held are)
 
 -- ---- no block is read
