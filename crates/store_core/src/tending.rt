@@ -71,6 +71,7 @@ impl<F: RangeFilter> Store<F> {
             → Tends F.spelling (filter_bytes_of F.spelling F.built_cutoff) s (told_slice result) self.new (D.world disk.old) (D.world disk.new) }
         ensures reads { (s : model.State) → IsTrue D.tells → Represents F.spelling (filter_bytes_of F.spelling F.built_cutoff) self.old s (D.world disk.old)
             → (D.world disk.new).seen.reads ≤ (D.world disk.old).seen.reads + blocks }
+        ensures twice { (D.world disk.new).seen.reads ≤ (D.world disk.old).seen.reads + 2 * blocks }
         ensures running { IfOk result (λ _. self.old.stopped ≡ false) }
         ensures refused { MatchResult result (IsTended self.old self.new (D.world disk.old) (D.world disk.new)) (IsTendRefusal self.old.stopped self.old.manifest.version.epoch (D.world disk.old) (D.world disk.new)) }
         ensures shown { IsTrue D.tells → IfErr result (IsScanShown self.new.tables (D.world disk.new).seen.held) }
@@ -139,6 +140,7 @@ impl<F: RangeFilter> Store<F> {
         ensures reads { (s : model.State) (running : model.Job) → IsTrue D.tells → s.job ≡ Some running
             → Represents F.spelling (filter_bytes_of F.spelling F.built_cutoff) (record self.old { job = Some job.entry }) s (D.world disk.old)
             → (D.world disk.new).seen.reads ≤ (D.world disk.old).seen.reads + blocks }
+        ensures twice { (D.world disk.new).seen.reads ≤ (D.world disk.old).seen.reads + 2 * blocks }
         ensures refused { MatchResult result (IsTended (record self.old { job = Some job.entry }) self.new (D.world disk.old) (D.world disk.new)) (IsTendRefusal false self.old.manifest.version.epoch (D.world disk.old) (D.world disk.new)) }
         ensures shown { IsTrue D.tells → IfErr result (IsScanShown self.new.tables (D.world disk.new).seen.held) }
         ensures dropped { OnErr result (self.new.job ≡ None) }
@@ -181,6 +183,7 @@ impl<F: RangeFilter> Store<F> {
         ensures reads { (s : model.State) (running : model.Job) → IsTrue D.tells → s.job ≡ Some running
             → Represents F.spelling (filter_bytes_of F.spelling F.built_cutoff) (record self.now { job = Some job.old }) s (D.world disk.old)
             → (D.world disk.new).seen.reads ≤ (D.world disk.old).seen.reads + blocks }
+        ensures twice { (D.world disk.new).seen.reads ≤ (D.world disk.old).seen.reads + 2 * blocks }
         ensures fault { IfErr result (IsSliceFault D.tells self.now.tables (numbers job.old.merge.walks) (D.world disk.old) (D.world disk.new)) }
         ensures unwritten { IfErr result (FailsBeforeWrite (D.world disk.old) (D.world disk.new)) }
         ensures no_room { IfErr result (HasNoRoom (filter_bytes_of F.spelling F.built_cutoff) job.old.settings self.now.manifest.version.pages (extents_with self.now.manifest.version job.old.outputs)) }
