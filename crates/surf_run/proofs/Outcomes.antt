@@ -5,7 +5,7 @@ use Rattle.std.proofs.lemmas.List.{append-nil}
 use Rattle.std.proofs.lemmas.List.Elements.{All-nil, All-push}
 use Rattle.block_model.specs.Pages.{page_bytes}
 use Rattle.disk_trait.specs.World.{Seen, World}
-use Rattle.key_base.specs.Limits.{piece_bytes}
+use Rattle.key_base.specs.Limits.{max_input_bytes, piece_bytes}
 use Rattle.line_model.specs.Lines.{lines_of, whole_lines}
 use Rattle.line_model.specs.Replies.{Bye, Device, Reply, text_of}
 use Rattle.line_model.specs.Requests.{request_of}
@@ -239,8 +239,8 @@ module _ (kind : Kind) (start : State) (base : ℕ) (taken kept : Bytes) (store 
       }
 
   -- the end of the input, with no line begun
-  pub settled_empty : w.beside.to_take ≡ [] → length kept ≡ 0 → EndOfServe kind 0 start base taken first w
-  settled_empty none nothing_kept =
+  pub settled_empty : w.beside.to_take ≡ [] → length taken < max_input_bytes → length kept ≡ 0 → EndOfServe kind 0 start base taken first w
+  settled_empty none less nothing_kept =
       let empty = held_none served.rest kept served.held nothing_kept in
       let lines : lines_of taken ≡ served.lines =
       ap lines_of (served.split ∙ ap (λ (l : Bytes). flat_map with_newline served.lines ++ l) empty) ∙ lines_first served.lines [] served.whole ∙ append-nil served.lines in
@@ -249,6 +249,7 @@ module _ (kind : Kind) (start : State) (base : ℕ) (taken kept : Bytes) (store 
         ended = λ _. inl (
           record { text = served.text; output = served.told; script = script_now (lines_of taken) lines; settled = inl none },
           leaves_now (lines_of taken) lines,
+          less,
         );
         device = λ e. absurd (omega arith);
         cut = λ is. absurd (elim is [ inl three ↦ omega arith | inr nine ↦ omega arith ]);
@@ -340,10 +341,10 @@ module _ (kind : Kind) (start : State) (base : ℕ) (taken kept : Bytes) (store 
       ends_all : (ending : Ending) → LastLine kind start base taken kept store first w served served.rest w' counts reply new answer all ending → (turn_of reply ≢ Onward → reply ≢ Device → EachImageStandsFor kind new w') → LastReplyTo kind piece_bytes ending reply start base taken first w'
       ends_all ending is_last stands = (served.lines, served.rest, inr taken_all, ends_with kind start base taken kept store first w served served.rest w' counts reply new answer all ending is_last stands)
 
-  pub settled_next : (store' : StoreValue) → EndsServed kind Next served.now (request_of served.rest) store' w w' → EndOfServe kind 0 start base taken first w'
-  settled_next store' a = record {
+  pub settled_next : length taken < max_input_bytes → (store' : StoreValue) → EndsServed kind Next served.now (request_of served.rest) store' w w' → EndOfServe kind 0 start base taken first w'
+  settled_next less store' a = record {
     serving = inl refl;
-    ended = λ _. inl (said_next a.0 a.1 a.3 a.5 a.2 a.4 a.7 a.6, leaves_next a.0 a.1 a.3 a.5 a.2 a.4 a.7 a.6 a.9);
+    ended = λ _. inl (said_next a.0 a.1 a.3 a.5 a.2 a.4 a.7 a.6, leaves_next a.0 a.1 a.3 a.5 a.2 a.4 a.7 a.6 a.9, less);
     device = λ e. absurd (omega arith);
     cut = λ is. absurd (elim is [ inl three ↦ omega arith | inr nine ↦ omega arith ]);
     output = λ e. absurd (omega arith);
