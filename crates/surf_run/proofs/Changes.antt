@@ -3,8 +3,8 @@ use Rattle.std.proofs.Common.{◌≡◌, ◌⊎◌, ◌≢◌, inl, inr, ◌≤�
 use Rattle.std.specs.Prelude.{◌||◌, Option, Some, None, Result, Ok, Err, MatchResult, IsTrue}
 use Rattle.block_model.specs.Pages.{page_bytes}
 use Rattle.byte_fields.specs.declared.parts.Damage.{Damage}
-use Rattle.disk_trait.specs.World.{Image, Streams, World, WriteMoves}
-use Rattle.disk_trait.proofs.Moments.{now_at}
+use Rattle.disk_trait.specs.World.{Image, Meanwhile, Streams, World, WriteMoves}
+use Rattle.disk_trait.proofs.Moments.{meanwhile_weaker, now_at}
 use Rattle.line_model.specs.Replies.{Device, Done, Full, LastEpoch, LongKey, LongValue, ManyTables, Memory, Reply, text_of}
 use Rattle.line_model.specs.Requests.{Request}
 use Rattle.outside.specs.Streams.{SaidByNow, SayMoves}
@@ -20,7 +20,7 @@ use Rattle.store_core.specs.declared.error.StoreError.{StoreError}
 use Rattle.store_core.specs.declared.error.StoreError.TheVariants as error
 use Rattle.surf_run.specs.Answering.{AnswersLine, EndsLine, RunsOn, SaysOnward, Whole}
 use Rattle.surf_run.specs.Causes.{DiskFailed, EndCause, LineShows, NoFall, SayFailed, WritesWithin}
-use Rattle.surf_run.specs.Crash.{HasOldOrNewMap}
+use Rattle.surf_run.specs.Crash.{HasMap, HasMapAfter, HasOldOrNewMap}
 use Rattle.surf_run.specs.Dialogue.{IsBounded, reply_bound}
 use Rattle.surf_run.specs.Kind.{Kind}
 use Rattle.surf_run.specs.Refusals.{end_of_change}
@@ -30,6 +30,7 @@ use Rattle.surf_run.specs.declared.line_end.LineEnd.TheVariants.{End, Next}
 use Rattle.surf_run.proofs.EndCauses.{disk_then, line_say, line_write, lines_on, no_fall_say, rose_since}
 use Rattle.surf_run.proofs.Footprint.{pages_say, pages_write, within_write}
 use Rattle.surf_run.proofs.Moments.{ends_device, ends_next, line_answer, map_of_state, tied_pages, tied_stands, tied_still}
+use Rattle.surf_run.proofs.OneMap.{wanted_or_answered}
 
 -- What is known of the reply that tells a change: it is `device`, where a call failed; or the run goes on; or damage was met.
 abbrev pub IsTold : {T : Type 0} → Result T StoreError → World → World → Reply → Type 0
@@ -113,6 +114,19 @@ module _ {T : Type 0} (kind : Kind) (s : State) (request : Request) (changed : R
   abbrev Both : Image → Type 0
   Both image = HasOldOrNewMap kind s request image
 
+  abbrev OldOrAfter : Image → Type 0
+  OldOrAfter image = HasMap kind s image ⊎ HasMapAfter kind s request answered.reply answered.after image
+
+  -- meanwhile each image has the map before or the one behind the reply: for want of memory it is the one before
+  kept_or_made : turn_of answered.reply ≡ Onward → Meanwhile OldOrAfter a mid
+  kept_or_made on = elim (wanted_or_answered (HasCause a mid) kind.filter_bytes s request answered.reply answered.after answered.step on) [
+    | inl memory ↦
+        let kept = answered.kept (λ done. let e : Memory ≡ Done = sym memory ∙ done in cc) (λ device. let e : Memory ≡ Device = sym memory ∙ device in cc) in
+        meanwhile_weaker (HasMap kind s) OldOrAfter a mid kept (λ image old. inl old)
+    | inr same ↦ meanwhile_weaker Both OldOrAfter a mid answered.crash
+        (λ image either. elim either [ inl old ↦ inl old | inr new ↦ inr (inl (subst (λ (t : State). HasMap kind t image) (sym same) new)) ])
+  ]
+
   said_so : IsTold changed a mid answered.reply
   said_so = subst (IsTold changed a mid) (some_same (told_change changed) told.0 answered.reply told.1 answered.told_is) told.2
 
@@ -126,7 +140,7 @@ module _ {T : Type 0} (kind : Kind) (s : State) (request : Request) (changed : R
               (line_answer kind s request Device answered.after Both a mid b answered.crash same now_a now_mid say
               (subst (λ (r : Reply). Step (HasCause a mid) kind.filter_bytes s request r answered.after) device.0 answered.step)
               (subst (λ (r : Reply). Says (end_by r) r result mid b) device.0 (says answered.reply answered.told_is)).0
-              (λ image either. either) (λ image left. inr (refl, now_at Both a mid answered.crash image left)) reads within)
+              (λ image either. inr (inr (refl, either))) (λ image left. inr (refl, now_at Both a mid answered.crash image left)) reads within)
               (subst (λ (r : Reply). Says (end_by r) r result mid b) device.0 (says answered.reply answered.told_is))
               (λ going. tied_still kind.spelling kind.filter_bytes store answered.after mid b say.time (answered.tied going))
           | inr more ↦ elim more [
@@ -135,8 +149,8 @@ module _ {T : Type 0} (kind : Kind) (s : State) (request : Request) (changed : R
                 let stand = tied_stands kind store answered.after mid few held in
                 let said = subst (λ (e : LineEnd). Says e answered.reply result mid b) goes.1 (says answered.reply answered.told_is) in
                 ends_next kind s request answered.after store a mid b same answered.reply result
-                (line_answer kind s request answered.reply answered.after Both a mid b answered.crash same now_a now_mid say answered.step said.0
-                (λ image either. either) (λ image left. inl (map_of_state kind answered.after image (stand image left))) reads within)
+                (line_answer kind s request answered.reply answered.after OldOrAfter a mid b (kept_or_made goes.0) same now_a now_mid say answered.step said.0
+                (λ image held. held) (λ image left. inl (map_of_state kind answered.after image (stand image left))) reads within)
                 said goes.0 (tied_still kind.spelling kind.filter_bytes store answered.after mid b say.time held)
                 (tied_stands kind store answered.after b few (tied_still kind.spelling kind.filter_bytes store answered.after mid b say.time held))
             | inr damaged ↦ absurd (unharmed damaged.0 damaged.1)

@@ -1,9 +1,9 @@
 -- How a step of a load is made: its change, and the merge slice behind it.
-use Rattle.std.proofs.Common.{◌≡◌, ◌≢◌, ◌⊎◌, inl, inr, ◌≤◌, ◌*◌, ◌++◌, ℕ, Bool, true, false, [], refl, sym, ap, ◌∙◌, subst}
+use Rattle.std.proofs.Common.{◌≡◌, ◌≢◌, ◌⊎◌, inl, inr, ◌≤◌, ◌+◌, ◌*◌, ◌++◌, ℕ, Bool, true, false, [], refl, sym, ap, ◌∙◌, subst, arith}
 use Rattle.std.specs.Prelude.{Option, Some, Result, Ok, Err, IsTrue}
 use Rattle.std.proofs.lemmas.List.{append-nil}
 use Rattle.block_model.specs.Pages.{page_bytes}
-use Rattle.disk_trait.specs.World.{Image, Streams, World, WriteMoves}
+use Rattle.disk_trait.specs.World.{Image, Seen, Streams, World, WriteMoves}
 use Rattle.disk_trait.proofs.Moments.{now_at}
 use Rattle.entry_model.specs.Entries.{Entry}
 use Rattle.image_model.specs.Stands.{StandsForMap}
@@ -28,6 +28,7 @@ use Rattle.store_core.specs.declared.error.StoreError.{StoreError}
 use Rattle.store_core.specs.declared.error.StoreError.TheVariants as error
 use Rattle.surf_run.specs.Causes.{DiskFailed, LineMoves, MeetsUnsaid, SayFailed, SliceShows, WritesWithin}
 use Rattle.surf_run.specs.Crash.{EachImageStandsFor, HasMap}
+use Rattle.surf_run.specs.Dialogue.{slice_blocks}
 use Rattle.surf_run.specs.Kind.{Kind}
 use Rattle.surf_run.specs.Loading.{HasStep, IsAnswer, IsChanged, IsStepText, IsStepped, MakesStep, StepCause, StepEnds, is_passed_over, stepped_map}
 use Rattle.surf_run.specs.Loads.{FailsAt, IsPassedOver, change_of, in_change, in_slice}
@@ -99,13 +100,14 @@ module _ (kind : Kind) (tells tells_output : Bool) (step : Entry) {T : Type 0} (
 
   -- it was done, or passed over
   pub change_made : (done : Bool) (reply : Reply) → told_change written ≡ Some reply → IsAnswer done reply → stopped_by written ≡ false
-      → MakesStep (λ s is. IsChanged kind step s store a mid is) kind tells tells_output step (Ok done) before store a mid
+      → MakesStep (λ s is. IsChanged kind step s store a mid is) 0 kind tells tells_output step (Ok done) before store a mid
   change_made done reply is answer runs = record {
     made = λ s tell output tied.
         let by = answered s tell tied in
         record {
           ends = (by.reply, by.after, by.step, subst (IsAnswer done) (some_same (told_change written) reply by.reply is by.told_is) answer, by.tied (stopped ∙ runs));
           crash = crashed s tell tied;
+          reads = omega (arith, moves.reads);
           writes = within s tell tied;
         };
     running = stopped ∙ runs;
@@ -117,6 +119,16 @@ module _ (kind : Kind) (tells tells_output : Bool) (step : Entry) {T : Type 0} (
 
   module _ (why : StoreError) (is : written ≡ Err why) (other : IsOther a mid why) (b : World) (status : ℕ) (now_mid : SaidByNow mid) (say : SayMoves mid b)
       (ends : (status ≡ opening_status why) ⊎ ((status ≡ 6) × SayFailed mid b)) where
+    -- at each moment meanwhile the map is the one before
+    kept_map : (s : State) → IsTrue tells → Represents kind.spelling kind.filter_bytes before s a → why ≡ error.Memory → During (λ said image. HasMap kind s image) a b
+    kept_map s tell tied memory =
+        let by = answered s tell tied in
+        let reply : by.reply ≡ Memory = some_same (told_change written) by.reply Memory by.told_is (ap (λ (w : Result T StoreError). told_change w) (is ∙ ap (λ (w : StoreError). Err w) memory)) in
+        let kept = by.kept (λ done. absurd (let e : Memory ≡ Done = sym reply ∙ done in cc)) (λ device. absurd (let e : Memory ≡ Device = sym reply ∙ device in cc)) in
+        during_then (λ k image. HasMap kind s image) a mid b
+        (during_weaker _ (λ k image. HasMap kind s image) a mid (during_disk (HasMap kind s) a mid kept moves.beside now_a) (λ k image at. at.1))
+        (during_weaker _ (λ k image. HasMap kind s image) mid b (during_say mid b say now_mid) (λ k image left. now_at (HasMap kind s) a mid kept image left.2))
+
     stays_tied : (s : State) → IsTrue tells → Represents kind.spelling kind.filter_bytes before s a → why ≡ error.Memory → EachImageStandsFor kind s b
     stays_tied s tell tied memory =
         let by = answered s tell tied in
@@ -137,7 +149,7 @@ module _ (kind : Kind) (tells tells_output : Bool) (step : Entry) {T : Type 0} (
 
     step_text : (s : State) → IsTrue tells → Represents kind.spelling kind.filter_bytes before s a → IsStepText kind step s a b (opening_status why) (opening_text why)
     step_text s tell tied = elim other [
-      | inl memory ↦ inl (ap opening_status memory, ap opening_text memory, stays_tied s tell tied memory)
+      | inl memory ↦ inl (ap opening_status memory, ap opening_text memory, stays_tied s tell tied memory, kept_map s tell tied memory)
       | inr device ↦ inr (device.0, subst (λ (t : Bytes). FailsAt (HasCause a b) kind.filter_bytes step s t) (sym device.1) (failed_step s tell tied device.4))
     ]
 
@@ -152,7 +164,7 @@ module _ (kind : Kind) (tells tells_output : Bool) (step : Entry) {T : Type 0} (
 
     -- the run ends, and its last line was said or not
     pub change_ended : (IsTrue tells_output → status ≢ 6 → b.beside.said ≡ mid.beside.said ++ opening_text why) → (IsTrue tells_output → SaysPrefix (opening_text why) mid.beside.said b.beside.said)
-        → MakesStep (λ s done. IsChanged kind step s store a b done) kind tells tells_output step (Err status) before store a b
+        → MakesStep (λ s done. IsChanged kind step s store a b done) 0 kind tells tells_output step (Err status) before store a b
     change_ended said prefix = record {
       made = λ s tell output tied.
           let at = (answered s tell tied).crash in
@@ -161,6 +173,7 @@ module _ (kind : Kind) (tells tells_output : Bool) (step : Entry) {T : Type 0} (
                 (λ same. said output (λ six. not_six why (other_opens a mid why other) (sym same ∙ six))) (prefix output) ends;
             crash = during_then (λ k image. HasStep kind s step image) a mid b (crashed s tell tied)
                 (during_weaker _ (λ k image. HasStep kind s step image) mid b (during_say mid b say now_mid) (λ k image left. now_at (Both s) a mid at image left.2));
+            reads = omega (arith, moves.reads, ap (λ (seen : Seen). seen.reads) say.seen);
             writes = within_on (page_bytes * s.pages) a mid b (within s tell tied) (within_say (page_bytes * s.pages) mid b say);
           };
       running = tt;
@@ -174,11 +187,11 @@ module _ (kind : Kind) (tells tells_output : Bool) (step : Entry) {T : Type 0} (
 
 -- the run has ended before the slice
 pub step_ended : (IsMade IsOther : State → Bool → Type 0) (kind : Kind) (tells tells_output : Bool) (step : Entry) (status : ℕ) (before store : StoreValue) (a b : World)
-    → MakesStep IsMade kind tells tells_output step (Err status) before store a b → MakesStep IsOther kind tells tells_output step (Err status) before store a b
+    → MakesStep IsMade 0 kind tells tells_output step (Err status) before store a b → MakesStep IsOther slice_blocks kind tells tells_output step (Err status) before store a b
 step_ended IsMade IsOther kind tells tells_output step status before store a b ended = record {
   made = λ s tell output tied.
       let by = ended.made s tell output tied in
-      record { ends = by.ends; crash = by.crash; writes = by.writes };
+      record { ends = by.ends; crash = by.crash; reads = omega (arith, by.reads); writes = by.writes };
   running = tt;
   silent = tt;
   cause = ended.cause;
@@ -187,15 +200,15 @@ step_ended IsMade IsOther kind tells tells_output step status before store a b e
 }
 
 module _ (kind : Kind) (tells tells_output : Bool) (step : Entry) (done : Bool) (before between : StoreValue) (a mid : World) (now_mid : SaidByNow mid)
-    (changes : MakesStep (λ s is. IsChanged kind step s between a mid is) kind tells tells_output step (Ok done) before between a mid) (new : StoreValue) (b : World) where
-  module _ (end : LineEnd) (slice : MakesSlice kind tells end between new mid b) (s : State) (tell : IsTrue tells) (output : IsTrue tells_output) (tied : Represents kind.spelling kind.filter_bytes before s a) where
-    abbrev by : StepEnds (λ is. IsChanged kind step s between a mid is) kind step (Ok done) s a mid
+    (changes : MakesStep (λ s is. IsChanged kind step s between a mid is) 0 kind tells tells_output step (Ok done) before between a mid) (new : StoreValue) (b : World) where
+  module _ (end : LineEnd) (slice : MakesSlice slice_blocks kind tells end between new mid b) (s : State) (tell : IsTrue tells) (output : IsTrue tells_output) (tied : Represents kind.spelling kind.filter_bytes before s a) where
+    abbrev by : StepEnds (λ is. IsChanged kind step s between a mid is) 0 kind step (Ok done) s a mid
     by = changes.made s tell output tied
 
     abbrev at : State
     at = by.ends.1
 
-    sliced : SliceMade kind end at new mid b
+    sliced : SliceMade slice_blocks kind end at new mid b
     sliced = slice.made at tell by.ends.4
 
     map_at : state_map at ≡ stepped_map done (state_map s) step
@@ -212,6 +225,9 @@ module _ (kind : Kind) (tells tells_output : Bool) (step : Entry) (done : Bool) 
     step_crash = during_then (λ said image. HasStep kind s step image) a mid b by.crash
         (during_weaker _ (λ said image. HasStep kind s step image) mid b (during_disk (HasMap kind at) mid b sliced.crash slice.silent now_mid)
         (λ k image here. behind_step image here.1))
+
+    pub step_reads : b.seen.reads ≤ a.seen.reads + slice_blocks
+    step_reads = omega (arith, by.reads, sliced.reads)
 
     pub step_writes : WritesWithin (page_bytes * s.pages) a b
     step_writes = within_on (page_bytes * s.pages) a mid b by.writes (subst (λ (n : ℕ). WritesWithin (page_bytes * n) mid b) pages sliced.writes)
@@ -232,16 +248,17 @@ module _ (kind : Kind) (tells tells_output : Bool) (step : Entry) (done : Bool) 
       slice_keeps kind.filter_bytes at made.1 made.0 by.ends.4.sound (ever_tends (HasCause mid b) kind.filter_bytes at made.1 made.0 made.2) ∙ map_at,
     )
 
-  slice_moves : (end : LineEnd) → MakesSlice kind tells end between new mid b → LineMoves mid b
+  slice_moves : (end : LineEnd) → MakesSlice slice_blocks kind tells end between new mid b → LineMoves mid b
   slice_moves end slice = record { input = ap (λ (s : Streams). s.to_take) slice.silent; counts = slice.counts }
 
   -- nothing ends
-  pub step_made : (end : LineEnd) → ((status : ℕ) → end ≡ End status → ⊥) → MakesSlice kind tells end between new mid b
-      → MakesStep (λ s is. IsStepped kind step s new a b is) kind tells tells_output step (Ok done) before new a b
+  pub step_made : (end : LineEnd) → ((status : ℕ) → end ≡ End status → ⊥) → MakesSlice slice_blocks kind tells end between new mid b
+      → MakesStep (λ s is. IsStepped kind step s new a b is) slice_blocks kind tells tells_output step (Ok done) before new a b
   step_made Next other slice = record {
     made = λ s tell output tied. record {
       ends = step_next Next slice s tell output tied (sliced Next slice s tell output tied).ends;
       crash = step_crash Next slice s tell output tied;
+      reads = step_reads Next slice s tell output tied;
       writes = step_writes Next slice s tell output tied;
     };
     running = slice.running;
@@ -264,12 +281,12 @@ module _ (kind : Kind) (tells tells_output : Bool) (step : Entry) (done : Bool) 
   either_answer true reply answer = inl answer
   either_answer false reply answer = inr answer
 
-  said_same : (end : LineEnd) → MakesSlice kind tells end between new mid b → b.beside.said ≡ a.beside.said
+  said_same : (end : LineEnd) → MakesSlice slice_blocks kind tells end between new mid b → b.beside.said ≡ a.beside.said
   said_same end slice = ap (λ (s : Streams). s.said) (slice.silent ∙ changes.silent)
 
   -- the slice ends the run
-  pub step_cut : (status : ℕ) → MakesSlice kind tells (End status) between new mid b
-      → MakesStep (λ s is. IsStepped kind step s new a b is) kind tells tells_output step (Err status) before new a b
+  pub step_cut : (status : ℕ) → MakesSlice slice_blocks kind tells (End status) between new mid b
+      → MakesStep (λ s is. IsStepped kind step s new a b is) slice_blocks kind tells tells_output step (Err status) before new a b
   step_cut status slice = record {
     made = λ s tell output tied.
         let change = by (End status) slice s tell output tied in
@@ -283,6 +300,7 @@ module _ (kind : Kind) (tells tells_output : Bool) (step : Entry) (done : Bool) 
         record {
           ends = (4, [], inr (refl, failed), inl (ends.0, said_same (End status) slice ∙ sym (append-nil a.beside.said)));
           crash = step_crash (End status) slice s tell output tied;
+          reads = step_reads (End status) slice s tell output tied;
           writes = step_writes (End status) slice s tell output tied;
         };
     running = tt;

@@ -33,6 +33,7 @@ use Rattle.store_core.specs.declared.error.StoreError.TheVariants as error
 use Rattle.surf_run.specs.Causes.{DiskFailed, IfDevice, IsServing, MeetsUnsaid, NoFall, RunMeetsDamage, SayFailed, ShowsSomeDamage, StatusCause, WritesWithin}
 use Rattle.surf_run.specs.Crash.{EachImageStandsFor, HasMap}
 use Rattle.surf_run.specs.ServedOrNot.{SomeFailed}
+use Rattle.surf_run.specs.Dialogue.{slice_blocks}
 use Rattle.surf_run.specs.Kind.{Kind}
 use Rattle.surf_run.specs.Loading.{HasStep, IsStepped, LoadInvariant, StepCause, StepEnds, stepped_map}
 use Rattle.surf_run.specs.Loads.{CrashOfLoad, FailsAt, HasFirstSteps, IsLoadText, IsLoading, LoadEnds, StepMade, StepsMade, change_of, step_behind}
@@ -95,8 +96,8 @@ module _ (kind : Kind) (start : State) (seed : ℕ) (store : StoreValue) (mid : 
 -- ---- so far
 
 module _ (kind : Kind) (start : State) (seed n refused : ℕ) (store : StoreValue) (first w : World) (far : LoadInvariant kind start seed n refused store first w) where
-  abbrev Crash : ℕ → ℕ → Image → Type 0
-  Crash count said image = CrashOfLoad kind start seed count n far.kept far.now image
+  abbrev Crash : ℕ → ℕ → ℕ → Image → Type 0
+  Crash count meant said image = CrashOfLoad kind start seed count n far.kept far.now meant image
 
   steps_to : (b : World) → NoFall w b → StepsMade (HasCause first b) kind start seed n refused far.kept far.now
   steps_to b falls = record {
@@ -141,33 +142,39 @@ module _ (kind : Kind) (start : State) (seed n refused : ℕ) (store : StoreValu
 
     pub load_says : (status meant : ℕ) (text : Bytes) → IsLoadText kind seed count n refused far.now first b meant text → (status ≡ meant → b.beside.said ≡ w.beside.said ++ text)
         → SaysPrefix text w.beside.said b.beside.said → (status ≡ meant) ⊎ ((status ≡ 6) × SayFailed w b) → LoadEnds kind status start seed count first b
-    load_says status meant text is whole prefix ends = record {
-      made = n;
-      kept = far.kept;
-      refused = refused;
-      now = far.now;
-      steps = steps_to b (no_fall_say w b say);
-      within = fewer;
-      line = last_line (IsLoadText kind seed count n refused far.now first b) first w b far.silent status meant text is whole prefix ends;
-      input = say.to_take ∙ ap (λ (s : Streams). s.to_take) far.silent;
-      crash = during_then (Crash count) first w b (during_weaker (First kind start far.kept) (Crash count) first w far.history (λ k image has. inl has))
-          (during_weaker _ (Crash count) w b (during_say w b say now_w) (λ k image at. inl (here_to image (map_of_state kind far.now image (far.stand image at.2)))));
-      writes = within_on (page_bytes * start.pages) first w b far.writes (within_say (page_bytes * start.pages) w b say);
-    }
+    load_says status meant text is whole prefix ends =
+        let tells = last_line (IsLoadText kind seed count n refused far.now first b) first w b far.silent status meant text is whole prefix ends in
+        record {
+          made = n;
+          kept = far.kept;
+          refused = refused;
+          now = far.now;
+          steps = steps_to b (no_fall_say w b say);
+          within = fewer;
+          line = tells;
+          input = say.to_take ∙ ap (λ (s : Streams). s.to_take) far.silent;
+          crash = during_then (Crash count tells.0) first w b (during_weaker (First kind start far.kept) (Crash count tells.0) first w far.history (λ k image has. inl has))
+              (during_weaker _ (Crash count tells.0) w b (during_say w b say now_w) (λ k image at. inl (here_to image (map_of_state kind far.now image (far.stand image at.2)))));
+          writes = within_on (page_bytes * start.pages) first w b far.writes (within_say (page_bytes * start.pages) w b say);
+        }
 
   -- one step more
   module _ (step : Entry) (is : step ≡ step_behind seed n) (b : World) (falls : NoFall w b) where
-    crash_cut : (count : ℕ) → n < count → During (λ said image. HasStep kind far.now step image) w b → During (Crash count) first b
-    crash_cut count less crash =
-        during_then (Crash count) first w b (during_weaker (First kind start far.kept) (Crash count) first w far.history (λ k image has. inl has))
-        (during_weaker (λ said image. HasStep kind far.now step image) (Crash count) w b crash
-        (λ k image has. elim (subst (λ (e : Entry). HasStep kind far.now e image) is has) [ inl before ↦ inl (here_to image before) | inr behind ↦ inr (less, behind) ]))
+    crash_cut : (IsMade : Bool → Type 0) (count : ℕ) (status : ℕ) → n < count → (ends : StepEnds IsMade slice_blocks kind step (Err status) far.now w b) → During (Crash count ends.ends.0) first b
+    crash_cut IsMade count status less ends =
+        let meant = ends.ends.0 in
+        during_then (Crash count meant) first w b (during_weaker (First kind start far.kept) (Crash count meant) first w far.history (λ k image has. inl has))
+        (elim ends.ends.2 [
+          | inl memory ↦ during_weaker (λ said image. HasMap kind far.now image) (Crash count meant) w b memory.3 (λ k image has. inl (here_to image has))
+          | inr device ↦ during_weaker (λ said image. HasStep kind far.now step image) (Crash count meant) w b ends.crash
+              (λ k image has. elim (subst (λ (e : Entry). HasStep kind far.now e image) is has) [ inl before ↦ inl (here_to image before) | inr behind ↦ inr (device.0, less, behind) ])
+        ])
 
     writes_to : WritesWithin (page_bytes * far.now.pages) w b → WritesWithin (page_bytes * start.pages) first b
     writes_to writes = within_on (page_bytes * start.pages) first w b far.writes (subst (λ (p : ℕ). WritesWithin (page_bytes * p) w b) far.pages writes)
 
     -- in which the run ends
-    pub load_cut : (IsMade : Bool → Type 0) (count : ℕ) (status : ℕ) → n < count → StepEnds IsMade kind step (Err status) far.now w b → b.beside.to_take ≡ w.beside.to_take → LoadEnds kind status start seed count first b
+    pub load_cut : (IsMade : Bool → Type 0) (count : ℕ) (status : ℕ) → n < count → StepEnds IsMade slice_blocks kind step (Err status) far.now w b → b.beside.to_take ≡ w.beside.to_take → LoadEnds kind status start seed count first b
     load_cut IsMade count status less ends input = record {
       made = n;
       kept = far.kept;
@@ -195,11 +202,11 @@ module _ (kind : Kind) (start : State) (seed n refused : ℕ) (store : StoreValu
         ],
       );
       input = input ∙ ap (λ (s : Streams). s.to_take) far.silent;
-      crash = crash_cut count less ends.crash;
+      crash = crash_cut IsMade count status less ends;
       writes = writes_to ends.writes;
     }
 
-    module _ (new : StoreValue) (silent : b.beside ≡ w.beside) (done : Bool) (ends : StepEnds (λ is. IsStepped kind step far.now new w b is) kind step (Ok done) far.now w b) where
+    module _ (new : StoreValue) (silent : b.beside ≡ w.beside) (done : Bool) (ends : StepEnds (λ is. IsStepped kind step far.now new w b is) slice_blocks kind step (Ok done) far.now w b) where
       abbrev after : State
       after = ends.ends.1
 
@@ -239,7 +246,7 @@ module _ (kind : Kind) (start : State) (seed n refused : ℕ) (store : StoreValu
       }
 
   module _ (step : Entry) (is : step ≡ step_behind seed n) (b : World) (falls : NoFall w b) (new : StoreValue) (silent : b.beside ≡ w.beside) where
-    one_more_done : StepEnds (λ is. IsStepped kind step far.now new w b is) kind step (Ok true) far.now w b → LoadInvariant kind start seed (n + 1) refused new first b
+    one_more_done : StepEnds (λ is. IsStepped kind step far.now new w b is) slice_blocks kind step (Ok true) far.now w b → LoadInvariant kind start seed (n + 1) refused new first b
     one_more_done ends =
         let more = far.kept ++ (step_behind seed n ∷ []) in
         let onward : changed (state_map far.now) step ≡ fold changed (state_map start) more =
@@ -253,7 +260,7 @@ module _ (kind : Kind) (start : State) (seed n refused : ℕ) (store : StoreValu
         (λ image has. first_more kind start far.kept (step_behind seed n ∷ []) image has)
         (λ image has. first_all kind start more (answer kind.filter_bytes far.now (change_of step)).1 (answer_is step is b falls new silent true ends ∙ onward) image has)
 
-    one_more_refused : StepEnds (λ is. IsStepped kind step far.now new w b is) kind step (Ok false) far.now w b → LoadInvariant kind start seed (n + 1) (refused + 1) new first b
+    one_more_refused : StepEnds (λ is. IsStepped kind step far.now new w b is) slice_blocks kind step (Ok false) far.now w b → LoadInvariant kind start seed (n + 1) (refused + 1) new first b
     one_more_refused ends =
         more_so_far step is b falls new silent false ends far.kept (refused + 1)
         (record {
@@ -265,15 +272,15 @@ module _ (kind : Kind) (start : State) (seed n refused : ℕ) (store : StoreValu
         (λ image has. first_all kind start far.kept (answer kind.filter_bytes far.now (change_of step)).1 (answer_is step is b falls new silent false ends ∙ far.steps.map) image has)
 
     -- counted as refused where it was passed over
-    pub one_more : (done : Bool) (others : ℕ) → StepEnds (λ is. IsStepped kind step far.now new w b is) kind step (Ok done) far.now w b
+    pub one_more : (done : Bool) (others : ℕ) → StepEnds (λ is. IsStepped kind step far.now new w b is) slice_blocks kind step (Ok done) far.now w b
         → ((done ≡ false) × (others ≡ refused + 1)) ⊎ ((done ≡ true) × (others ≡ refused)) → LoadInvariant kind start seed (n + 1) others new first b
     one_more done others ends counted = elim counted [
       | inl over ↦
           subst (λ (k : ℕ). LoadInvariant kind start seed (n + 1) k new first b) (sym over.1)
-          (one_more_refused (subst (λ (d : Bool). StepEnds (λ is. IsStepped kind step far.now new w b is) kind step (Ok d) far.now w b) over.0 ends))
+          (one_more_refused (subst (λ (d : Bool). StepEnds (λ is. IsStepped kind step far.now new w b is) slice_blocks kind step (Ok d) far.now w b) over.0 ends))
       | inr all ↦
           subst (λ (k : ℕ). LoadInvariant kind start seed (n + 1) k new first b) (sym all.1)
-          (one_more_done (subst (λ (d : Bool). StepEnds (λ is. IsStepped kind step far.now new w b is) kind step (Ok d) far.now w b) all.0 ends))
+          (one_more_done (subst (λ (d : Bool). StepEnds (λ is. IsStepped kind step far.now new w b is) slice_blocks kind step (Ok d) far.now w b) all.0 ends))
     ]
 
 -- ---- the summary

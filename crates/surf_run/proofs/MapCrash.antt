@@ -1,6 +1,6 @@
 -- What a crash leaves of lines that one sorted map answers.
 use Rattle.std.proofs.Common.{◌≡◌, ◌⊎◌, inl, inr, ◌++◌, ℕ, List, [], ◌∷◌, refl, sym, ◌∙◌, subst, Bool, true, false, cond, append_assoc}
-use Rattle.std.specs.Prelude.{take}
+use Rattle.std.specs.Prelude.{drop, take}
 use Rattle.std.proofs.lemmas.List.{append-nil}
 use Rattle.byte_fields.specs.declared.parts.Damage.{Damage}
 use Rattle.disk_trait.specs.World.{Image}
@@ -105,53 +105,44 @@ module _ (C : Why → Type 0) (undamaged : (damage : Damage) → C (DamageMet da
 
 module _ (C : Why → Type 0) (undamaged : (damage : Damage) → C (DamageMet damage) → ⊥) (kind : Kind) where
   -- between two lines
-  here : (map : Map) (later : List Bytes) → IsMapAfter map later [] map
-  here map [] = (refl, refl)
-  here map (line ∷ more) = inl (refl, inl refl)
+  here : (map : Map) (later : List Bytes) (then : Bytes) → IsMapAfter map later [] then map
+  here map [] then = (refl, refl)
+  here map (line ∷ more) then = inl (refl, refl)
 
-  after_prefix : (s : State) (later : List Bytes) (replies told : Bytes) (image : Image) → IsAfterPrefix C kind s later replies told image
-      → (now : Map) × (part : Bytes) × (told ≡ replies ++ part) × IsMapAfter (state_map s) later part now × StandsForMap kind.spelling now image
-  after_prefix s later replies told image (inl (is, inl map)) = (state_map s, [], is ∙ sym (append-nil replies), here (state_map s) later, map)
-  after_prefix s later replies told image (inl (is, inr (line, more, next, inl map))) = (state_map s, [], is ∙ sym (append-nil replies), here (state_map s) later, map)
-  after_prefix s later replies told image (inl (is, inr (line, more, next, inr map))) =
-      let now = state_map (answer kind.filter_bytes s (request_of line)).1 in (
-        now,
-        [],
-        is ∙ sym (append-nil replies),
-        subst (λ (lines : List Bytes). IsMapAfter (state_map s) lines [] now) (sym next) (inl (refl, answer_is kind.filter_bytes s (request_of line))),
-        map,
-      )
-  after_prefix s later replies told image (inr (line, more, reply, after, part, rest, next, step, whole, is, inl map)) =
+  after_prefix : (s : State) (later : List Bytes) (replies told then : Bytes) (image : Image) → IsAfterPrefix C kind s later replies told then image
+      → (now : Map) × (part : Bytes) × (told ≡ replies ++ part) × IsMapAfter (state_map s) later part then now × StandsForMap kind.spelling now image
+  after_prefix s later replies told then image (inl (is, map)) = (state_map s, [], is ∙ sym (append-nil replies), here (state_map s) later then, map)
+  after_prefix s later replies told then image (inr (line, more, reply, after, part, rest, next, step, whole, is, goes, inl map)) =
       let shown = step_shows C undamaged kind.filter_bytes s (request_of line) reply after step in (
         state_map after,
         part,
         is,
-        subst (λ (lines : List Bytes). IsMapAfter (state_map s) lines part (state_map after)) (sym next) (inr (reply, rest, whole, shown.0, shown.1)),
+        subst (λ (lines : List Bytes). IsMapAfter (state_map s) lines part then (state_map after)) (sym next) (inr (reply, rest, whole, goes, shown.0, shown.1)),
         map,
       )
-  after_prefix s later replies told image (inr (line, more, reply, after, part, rest, next, step, whole, is, inr (device, inl map))) =
+  after_prefix s later replies told then image (inr (line, more, reply, after, part, rest, next, step, whole, is, goes, inr (device, inl map))) =
       let shown = step_shows C undamaged kind.filter_bytes s (request_of line) reply after step in (
         state_map s,
         part,
         is,
-        subst (λ (lines : List Bytes). IsMapAfter (state_map s) lines part (state_map s)) (sym next) (inr (reply, rest, whole, shown.0, inr (device, inl refl))),
+        subst (λ (lines : List Bytes). IsMapAfter (state_map s) lines part then (state_map s)) (sym next) (inr (reply, rest, whole, goes, shown.0, inr (device, inl refl))),
         map,
       )
-  after_prefix s later replies told image (inr (line, more, reply, after, part, rest, next, step, whole, is, inr (device, inr map))) =
+  after_prefix s later replies told then image (inr (line, more, reply, after, part, rest, next, step, whole, is, goes, inr (device, inr map))) =
       let now = state_map (answer kind.filter_bytes s (request_of line)).1 in
       let shown = step_shows C undamaged kind.filter_bytes s (request_of line) reply after step in (
         now,
         part,
         is,
-        subst (λ (lines : List Bytes). IsMapAfter (state_map s) lines part now) (sym next)
-            (inr (reply, rest, whole, shown.0, inr (device, answer_is kind.filter_bytes s (request_of line)))),
+        subst (λ (lines : List Bytes). IsMapAfter (state_map s) lines part then now) (sym next)
+            (inr (reply, rest, whole, goes, shown.0, inr (device, answer_is kind.filter_bytes s (request_of line)))),
         map,
       )
 
   pub keeps_one_map : (start : State) → IsSound kind.filter_bytes start → (lines : List Bytes) (before told : Bytes) (n : ℕ) (image : Image)
       → KeepsAcknowledged C kind start lines before told n image → HasOneMap kind.spelling (state_map start) lines before told n image
   keeps_one_map start sound lines before told n image ack =
-      let left = after_prefix ack.now ack.later (before ++ ack.text) (take n told) image ack.behind in (
+      let left = after_prefix ack.now ack.later (before ++ ack.text) (take n told) (drop n told) image ack.behind in (
         left.0,
         record {
           so_far = ack.so_far;

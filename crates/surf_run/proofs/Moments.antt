@@ -1,5 +1,5 @@
 -- What a line leads to at each moment.
-use Rattle.std.proofs.Common.{◌≡◌, inl, inr, ◌≤◌, ◌+◌, ◌*◌, ◌++◌, ℕ, [], length, refl, sym, ap, ◌∙◌, subst, arith}
+use Rattle.std.proofs.Common.{◌≡◌, ◌⊎◌, inl, inr, ◌≤◌, ◌+◌, ◌*◌, ◌++◌, ℕ, [], length, length-append, refl, sym, ap, ◌∙◌, subst, arith}
 use Rattle.std.specs.Prelude.{None, false}
 use Rattle.block_model.specs.Pages.{page_bytes}
 use Rattle.disk_trait.specs.World.{Image, Meanwhile, Now, Passes, Same, Seen, Streams, Torn, World}
@@ -22,7 +22,7 @@ use Rattle.store_core.specs.StoreValue.{StoreValue}
 use Rattle.store_core.specs.Represents.{Represents, RepresentsOn}
 use Rattle.surf_run.specs.Answering.{EndsLine, InLine, LineAnswer}
 use Rattle.surf_run.specs.Causes.{WritesWithin}
-use Rattle.surf_run.specs.Crash.{EachImageStandsFor, HasMap, HasMapAfter, HasOldOrNewMap, HasState}
+use Rattle.surf_run.specs.Crash.{EachImageStandsFor, HasMap, HasMapAfter, HasState}
 use Rattle.surf_run.specs.Dialogue.{IsBounded, reply_bound}
 use Rattle.surf_run.specs.Kind.{Kind}
 use Rattle.surf_run.specs.Saying.{Says}
@@ -89,10 +89,16 @@ module _ (kind : Kind) (old : State) (request : Request) (reply : Reply) (new : 
   said_same = ap (λ (s : Streams). s.said) same
 
   module _ (step : Step (HasCause a mid) kind.filter_bytes old request reply new) (prefix : SaysPrefix (text_of reply) mid.beside.said b.beside.said)
-      (first : (image : Image) → P image → HasOldOrNewMap kind old request image) (then : (image : Image) → mid.leaves mid.moment image → HasMapAfter kind old request reply new image)
+      (first : (image : Image) → P image → HasMap kind old image ⊎ HasMapAfter kind old request reply new image) (then : (image : Image) → mid.leaves mid.moment image → HasMapAfter kind old request reply new image)
       (reads : IsBounded request → mid.seen.reads ≤ a.seen.reads + reply_bound old request) (writes : WritesWithin (page_bytes * old.pages) a mid) where
+    said_more : length a.beside.said ≤ length b.beside.said
+    said_more = omega (arith, ap length said_same, ap length prefix.said, length-append mid.beside.said prefix.done)
+
     acting : (k : ℕ) (image : Image) → (k ≡ length a.beside.said) × P image → InLine kind old request reply new (length a.beside.said) (length b.beside.said) k image
-    acting k image at = inl (at.0, first image at.1)
+    acting k image at = elim (first image at.1) [
+      | inl old ↦ inl (at.0, old)
+      | inr behind ↦ inr (omega (arith, at.0), omega (arith, at.0, said_more), behind)
+    ]
 
     saying : (k : ℕ) (image : Image) → (length mid.beside.said ≤ k) × (k ≤ length b.beside.said) × mid.leaves mid.moment image
         → InLine kind old request reply new (length a.beside.said) (length b.beside.said) k image

@@ -183,6 +183,17 @@ step_goes filter_bytes s request reply after d = elim d as (λ r new _. Goes s r
   | write_failed new fits writes cause left same ↦ λ on. absurd (never_over _ on)
 ]
 
+-- its reply is `memory`, or it is the state's answer
+pub wanted_or_answered : (C : Why → Type 0) (filter_bytes : FilterBytes) (s : State) (request : Request) (reply : Reply) (after : State) → Step C filter_bytes s request reply after
+    → turn_of reply ≡ Onward → (reply ≡ Memory) ⊎ (after ≡ (answer filter_bytes s request).1)
+wanted_or_answered C filter_bytes s request reply after d = elim d as (λ r new _. turn_of r ≡ Onward → (r ≡ Memory) ⊎ (new ≡ (answer filter_bytes s request).1)) [
+  | answers ↦ λ on. inr refl
+  | no_memory fits takes cause ↦ λ on. inl refl
+  | read_failed said fits reads cause so ↦ λ on. absurd (faulty s request Device said (never_over _) (λ found. never_over _) so on)
+  | damage_met damage said fits reads cause so ↦ λ on. absurd (faulty s request (Damaged damage) said (never_over _) (λ found. never_over _) so on)
+  | write_failed new fits writes cause left same ↦ λ on. absurd (never_over _ on)
+]
+
 -- ---- a merge slice
 
 between_goes : (C : Why → Type 0) (filter_bytes : FilterBytes) (request : Request) (s after : State) → IsSound filter_bytes s → Between C filter_bytes request s Onward after

@@ -59,20 +59,20 @@ module _ (kind : Kind) (start : State) (base : ℕ) (store : StoreValue) (old mi
   served_open opened now_old here =
       let said_same : mid.beside.said ≡ old.beside.said = ap (λ (s : Streams). s.said) opened.beside in
       served_none kind start base store old mid said_same
-      (during_weaker (λ k image. (k ≡ length old.beside.said) × HasMap kind start image) _ old mid
+      (λ then. during_weaker (λ k image. (k ≡ length old.beside.said) × HasMap kind start image) _ old mid
       (during_disk (HasMap kind start) old mid
       (in_call (HasMap kind start) Same old mid (λ image left. map_of_image kind start image (here image left)) opened.time (λ was image left same. subst (HasMap kind start) (sym same) (map_of_image kind start was (here was left))))
       opened.beside now_old)
-      (λ k image at. ack_none (HasCause old mid) kind start old.beside.said mid.beside.said said_same k image (at.0 ∙ ap length (sym said_same)) at.1))
+      (λ k image at. ack_none (HasCause old mid) kind start old.beside.said mid.beside.said then said_same k image (at.0 ∙ ap length (sym said_same)) at.1))
       tied stand opened.counts reads (within_still (page_bytes * start.pages) old mid opened.held opened.time)
 
   -- from the opening on
   pub served_now : SaidByNow mid → ServeInvariant kind start base [] [] store mid mid
   served_now now_mid =
       served_none kind start base store mid mid refl
-      (during_weaker (λ k image. (k ≡ length mid.beside.said) × HasMap kind start image) _ mid mid
+      (λ then. during_weaker (λ k image. (k ≡ length mid.beside.said) × HasMap kind start image) _ mid mid
       (during_none (HasMap kind start) mid (λ image left. map_of_state kind start image (stand image left)) now_mid)
-      (λ k image at. ack_none (HasCause mid mid) kind start mid.beside.said mid.beside.said refl k image at.0 at.1))
+      (λ k image at. ack_none (HasCause mid mid) kind start mid.beside.said mid.beside.said then refl k image at.0 at.1))
       tied stand (no_fall_none mid) reads (within_none (page_bytes * start.pages) mid)
 
 -- ---- why it is not opened

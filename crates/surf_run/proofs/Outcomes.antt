@@ -5,7 +5,7 @@ use Rattle.std.proofs.lemmas.List.{append-nil}
 use Rattle.std.proofs.lemmas.List.Elements.{All-nil, All-push}
 use Rattle.block_model.specs.Pages.{page_bytes}
 use Rattle.disk_trait.specs.World.{Seen, World}
-use Rattle.key_base.specs.Limits.{piece_bytes}
+use Rattle.key_base.specs.Limits.{max_input_bytes, piece_bytes}
 use Rattle.line_model.specs.Lines.{lines_of, whole_lines}
 use Rattle.line_model.specs.Replies.{Bye, Device, Reply, text_of}
 use Rattle.line_model.specs.Requests.{request_of}
@@ -44,7 +44,7 @@ use Rattle.surf_run.proofs.Texts.{held_none, held_same, held_some, last_line, li
 
 -- before anything was taken, since a first world
 pub served_none : (kind : Kind) (start : State) (base : ℕ) (store : StoreValue) (first w : World) → w.beside.said ≡ first.beside.said
-    → During (KeepsAcknowledged (HasCause first w) kind start [] first.beside.said w.beside.said) first w → Represents kind.spelling kind.filter_bytes store start w → EachImageStandsFor kind start w
+    → ((then : Bytes) → During (KeepsAcknowledged (HasCause first w) kind start [] first.beside.said (w.beside.said ++ then)) first w) → Represents kind.spelling kind.filter_bytes store start w → EachImageStandsFor kind start w
     → NoFall first w → w.seen.reads ≤ base → WritesWithin (page_bytes * start.pages) first w → ServeInvariant kind start base [] [] store first w
 served_none kind start base store first w same history tied stand counts reads writes = record {
   lines = [];
@@ -80,16 +80,16 @@ module _ (kind : Kind) (start : State) (base : ℕ) (bytes kept : Bytes) (store 
   told : w'.beside.said ≡ first.beside.said ++ served.text
   told = moves.said ∙ served.told
 
-  history : During (KeepsAcknowledged (HasCause first w') kind start served.lines first.beside.said w'.beside.said) first w'
-  history =
+  history : (then : Bytes) → During (KeepsAcknowledged (HasCause first w') kind start served.lines first.beside.said (w'.beside.said ++ then)) first w'
+  history then =
       let went = so_far_any (HasCause first w') kind.filter_bytes (WasStateAt kind w') (length first.beside.said) 0 start served.lines served.text served.most served.now ran in
       during_then _ first w w'
-      (during_weaker _ _ first w served.history (λ n image ack.
-      subst (λ (ls : List Bytes). KeepsAcknowledged (HasCause first w') kind start ls first.beside.said w'.beside.said n image) (append-nil served.lines)
-      (ack_more (HasCause first w) (HasCause first w') (causes_later first w w' (no_fall_take w w' moves)) kind start served.lines [] first.beside.said w.beside.said w'.beside.said []
-      (moves.said ∙ sym (append-nil w.beside.said)) n image ack)))
+      (during_weaker _ _ first w (served.history then) (λ n image ack.
+      subst (λ (ls : List Bytes). KeepsAcknowledged (HasCause first w') kind start ls first.beside.said (w'.beside.said ++ then) n image) (append-nil served.lines)
+      (ack_more (HasCause first w) (HasCause first w') (causes_later first w w' (no_fall_take w w' moves)) kind start served.lines [] first.beside.said (w.beside.said ++ then) (w'.beside.said ++ then)
+      (ap (λ (l : Bytes). l ++ then) moves.said) n image ack)))
       (during_weaker (λ k image. (k ≡ length w.beside.said) × HasMap kind served.now image) _ w w' taking
-      (λ k image at. ack_here (HasCause first w') kind start served.lines served.text served.most served.now first.beside.said w'.beside.said told k image went (at.0 ∙ ap length (sym moves.said)) at.1))
+      (λ k image at. ack_here (HasCause first w') kind start served.lines served.text served.most served.now first.beside.said w'.beside.said then told k image went (at.0 ∙ ap length (sym moves.said)) at.1))
 
   pub served_take : ServeInvariant kind start base bytes kept store first w'
   served_take = record {
@@ -132,7 +132,7 @@ more_lines : (kind : Kind) (start : State) (taken : Bytes) (lines later : List B
 more_lines kind start taken lines later first w is history =
     subst (λ (ls : List Bytes). During (KeepsAcknowledged (HasCause first w) kind start ls first.beside.said w.beside.said) first w) (sym is)
     (during_weaker _ _ first w history
-    (ack_more (HasCause first w) (HasCause first w) (λ why cause. cause) kind start lines later first.beside.said w.beside.said w.beside.said [] (sym (append-nil w.beside.said))))
+    (ack_more (HasCause first w) (HasCause first w) (λ why cause. cause) kind start lines later first.beside.said w.beside.said w.beside.said refl))
 
 ends_to : (kind : Kind) (most : ℕ) (ending : Ending) (reply : Reply) (start : State) (base : ℕ) (taken : Bytes) (first w : World) → most ≤ piece_bytes → LastReplyPast kind most ending reply start base taken first w
     → LastReplyTo kind piece_bytes ending reply start base taken first w
@@ -214,8 +214,11 @@ module _ (kind : Kind) (start : State) (base : ℕ) (taken kept : Bytes) (store 
       subst (λ (ls : List Bytes). Script (HasCause first w) kind.filter_bytes (WasStateAt kind w) (length first.beside.said) start ls served.text ToLast) (sym is)
       (script_of (HasCause first w) kind.filter_bytes (WasStateAt kind w) (length first.beside.said) start served.lines served.text served.most served.now served.ran)
 
+  history_now : During (KeepsAcknowledged (HasCause first w) kind start served.lines first.beside.said w.beside.said) first w
+  history_now = subst (λ (t : Bytes). During (KeepsAcknowledged (HasCause first w) kind start served.lines first.beside.said t) first w) (append-nil w.beside.said) (served.history [])
+
   crash_now : (lines : List Bytes) → lines ≡ served.lines → During (KeepsAcknowledged (HasCause first w) kind start lines first.beside.said w.beside.said) first w
-  crash_now lines is = subst (λ (ls : List Bytes). During (KeepsAcknowledged (HasCause first w) kind start ls first.beside.said w.beside.said) first w) (sym is) served.history
+  crash_now lines is = subst (λ (ls : List Bytes). During (KeepsAcknowledged (HasCause first w) kind start ls first.beside.said w.beside.said) first w) (sym is) history_now
 
   -- the input is cut off
   pub settled_cut : (status : ℕ) → (status ≡ 3) ⊎ (status ≡ 9) → EndOfServe kind status start base taken first w
@@ -234,13 +237,13 @@ module _ (kind : Kind) (start : State) (base : ℕ) (taken kept : Bytes) (store 
         };
         output = λ e. absurd (elim is [ inl three ↦ omega arith | inr nine ↦ omega arith ]);
         said = (served.text, served.told);
-        crash = more_lines kind start taken served.lines (lines_of served.rest) first w (ap lines_of served.split ∙ lines_first served.lines served.rest served.whole) served.history;
+        crash = more_lines kind start taken served.lines (lines_of served.rest) first w (ap lines_of served.split ∙ lines_first served.lines served.rest served.whole) history_now;
         writes = served.writes;
       }
 
   -- the end of the input, with no line begun
-  pub settled_empty : w.beside.to_take ≡ [] → length kept ≡ 0 → EndOfServe kind 0 start base taken first w
-  settled_empty none nothing_kept =
+  pub settled_empty : w.beside.to_take ≡ [] → length taken < max_input_bytes → length kept ≡ 0 → EndOfServe kind 0 start base taken first w
+  settled_empty none less nothing_kept =
       let empty = held_none served.rest kept served.held nothing_kept in
       let lines : lines_of taken ≡ served.lines =
       ap lines_of (served.split ∙ ap (λ (l : Bytes). flat_map with_newline served.lines ++ l) empty) ∙ lines_first served.lines [] served.whole ∙ append-nil served.lines in
@@ -249,6 +252,7 @@ module _ (kind : Kind) (start : State) (base : ℕ) (taken kept : Bytes) (store 
         ended = λ _. inl (
           record { text = served.text; output = served.told; script = script_now (lines_of taken) lines; settled = inl none },
           leaves_now (lines_of taken) lines,
+          less,
         );
         device = λ e. absurd (omega arith);
         cut = λ is. absurd (elim is [ inl three ↦ omega arith | inr nine ↦ omega arith ]);
@@ -340,10 +344,10 @@ module _ (kind : Kind) (start : State) (base : ℕ) (taken kept : Bytes) (store 
       ends_all : (ending : Ending) → LastLine kind start base taken kept store first w served served.rest w' counts reply new answer all ending → (turn_of reply ≢ Onward → reply ≢ Device → EachImageStandsFor kind new w') → LastReplyTo kind piece_bytes ending reply start base taken first w'
       ends_all ending is_last stands = (served.lines, served.rest, inr taken_all, ends_with kind start base taken kept store first w served served.rest w' counts reply new answer all ending is_last stands)
 
-  pub settled_next : (store' : StoreValue) → EndsServed kind Next served.now (request_of served.rest) store' w w' → EndOfServe kind 0 start base taken first w'
-  settled_next store' a = record {
+  pub settled_next : length taken < max_input_bytes → (store' : StoreValue) → EndsServed kind Next served.now (request_of served.rest) store' w w' → EndOfServe kind 0 start base taken first w'
+  settled_next less store' a = record {
     serving = inl refl;
-    ended = λ _. inl (said_next a.0 a.1 a.3 a.5 a.2 a.4 a.7 a.6, leaves_next a.0 a.1 a.3 a.5 a.2 a.4 a.7 a.6 a.9);
+    ended = λ _. inl (said_next a.0 a.1 a.3 a.5 a.2 a.4 a.7 a.6, leaves_next a.0 a.1 a.3 a.5 a.2 a.4 a.7 a.6 a.9, less);
     device = λ e. absurd (omega arith);
     cut = λ is. absurd (elim is [ inl three ↦ omega arith | inr nine ↦ omega arith ]);
     output = λ e. absurd (omega arith);

@@ -1,5 +1,5 @@
 -- How a run goes on, line by line.
-use Rattle.std.proofs.Common.{◌≡◌, ◌≢◌, ◌≤◌, inl, inr, ◌+◌, ◌*◌, ◌++◌, ℕ, List, [], ◌∷◌, length, refl, sym, ap, ◌∙◌, subst, arith, append_assoc, length-append, false}
+use Rattle.std.proofs.Common.{◌≡◌, ◌≢◌, ◌⊎◌, ◌≤◌, inl, inr, ◌+◌, ◌*◌, ◌++◌, ℕ, List, [], ◌∷◌, length, refl, sym, ap, ◌∙◌, subst, arith, append_assoc, length-append, false}
 use Rattle.std.specs.Prelude.{flat_map, All, Some, ◌==◌}
 use Rattle.std.proofs.lemmas.Grind.{flat_map-append}
 use Rattle.std.proofs.lemmas.List.{append-nil}
@@ -36,7 +36,7 @@ use Rattle.surf_run.specs.declared.line_end.LineEnd.TheVariants.{End, Next, Quit
 use Rattle.surf_run.proofs.Dialogues.{IsLast, between_as, device_last, ends_there, script_ends, slice_last, so_far_any, so_far_as, so_far_on, step_as}
 use Rattle.surf_run.proofs.EndCauses.{causes_later, causes_since, no_fall_on}
 use Rattle.surf_run.proofs.Footprint.{within_on}
-use Rattle.surf_run.proofs.History.{ack_more, line_ack, reached_here, reached_on}
+use Rattle.surf_run.proofs.History.{ack_more, line_ack, none_left, reached_here, reached_on}
 use Rattle.surf_run.proofs.OneMap.{one_map}
 use Rattle.surf_run.proofs.Slices.{between_pages}
 use Rattle.surf_run.proofs.Texts.{held_same, lines_first, whole_on}
@@ -48,15 +48,22 @@ module _ (kind : Kind) (start : State) (base : ℕ) (bytes kept : Bytes) (store 
   pub step_whole : Step (HasCause first w') kind.filter_bytes served.now (request_of line) reply new
   step_whole = step_as (HasCause w w') (HasCause first w') kind.filter_bytes (causes_since first w w' served.counts) served.now (request_of line) reply new answer.step
 
-  pub history_then : During (KeepsAcknowledged (HasCause first w') kind start (served.lines ++ line ∷ []) first.beside.said w'.beside.said) first w'
-  history_then =
+  history_on : (then : Bytes) → (answer.prefix.rest ≡ []) ⊎ (then ≡ [])
+      → During (KeepsAcknowledged (HasCause first w') kind start (served.lines ++ line ∷ []) first.beside.said (w'.beside.said ++ then)) first w'
+  history_on then ends =
       let went = so_far_any (HasCause first w') kind.filter_bytes (WasStateAt kind w) (length first.beside.said) 0 start served.lines served.text served.most served.now
       (so_far_as (HasCause first w) (HasCause first w') kind.filter_bytes (WasStateAt kind w) (WasStateAt kind w) (causes_later first w w' counts) (λ n s r. r) (length first.beside.said) start served.lines served.text served.most served.now served.ran) in
+      let done = answer.prefix.done ++ then in
       during_then _ first w w'
-      (during_weaker _ _ first w served.history
-      (ack_more (HasCause first w) (HasCause first w') (causes_later first w w' counts) kind start served.lines (line ∷ []) first.beside.said w.beside.said w'.beside.said answer.prefix.done answer.prefix.said))
+      (during_weaker _ _ first w (served.history done)
+      (ack_more (HasCause first w) (HasCause first w') (causes_later first w w' counts) kind start served.lines (line ∷ []) first.beside.said (w.beside.said ++ done) (w'.beside.said ++ then)
+      (ap (λ (l : Bytes). l ++ then) answer.prefix.said ∙ append_assoc w.beside.said answer.prefix.done then)))
       (during_weaker _ _ w w' answer.each
-      (line_ack (HasCause first w') kind start (HasCause w w') (causes_since first w w' served.counts) served.lines line served.text served.most served.now reply new first w w' went served.told answer.prefix answer.step))
+      (line_ack (HasCause first w') kind start (HasCause w w') (causes_since first w w' served.counts) served.lines line served.text served.most served.now reply new first w w' went served.told answer.prefix answer.step then ends))
+
+  pub history_then : During (KeepsAcknowledged (HasCause first w') kind start (served.lines ++ line ∷ []) first.beside.said w'.beside.said) first w'
+  history_then =
+      subst (λ (t : Bytes). During (KeepsAcknowledged (HasCause first w') kind start (served.lines ++ line ∷ []) first.beside.said t) first w') (append-nil w'.beside.said) (history_on [] (inr refl))
 
   pub ran_then : AnsweredLines (HasCause first w') kind.filter_bytes (WasStateAt kind w') (length first.beside.said) start served.lines served.text served.most served.now
   ran_then = so_far_as (HasCause first w) (HasCause first w') kind.filter_bytes (WasStateAt kind w) (WasStateAt kind w') (causes_later first w w' counts) (reached_on kind _ w w' answer.each)
@@ -92,6 +99,10 @@ module _ (kind : Kind) (start : State) (base : ℕ) (bytes kept : Bytes) (store 
   module _ (all : Whole reply w w') where
     pub told_then : w'.beside.said ≡ first.beside.said ++ (served.text ++ text_of reply)
     told_then = all ∙ ap (λ (l : Bytes). l ++ text_of reply) served.told ∙ append_assoc first.beside.said served.text (text_of reply)
+
+    -- whatever is said then
+    pub history_whole : (then : Bytes) → During (KeepsAcknowledged (HasCause first w') kind start (served.lines ++ line ∷ []) first.beside.said (w'.beside.said ++ then)) first w'
+    history_whole then = history_on then (inl (none_left (text_of reply) w.beside.said w'.beside.said answer.prefix all))
 
     abbrev pub said_then : ℕ
     said_then = length first.beside.said + length served.text + length (text_of reply)
@@ -211,7 +222,7 @@ module _ (kind : Kind) (start : State) (base : ℕ) (bytes kept : Bytes) (store 
             (reached_as kind start base bytes kept store first w served (served.rest ++ part) w' counts reply new answer all reached);
         told = told_then kind start base bytes kept store first w served (served.rest ++ part) w' counts reply new answer all;
         held = held_same [] kept' cleared (omega arith);
-        history = history_then kind start base bytes kept store first w served (served.rest ++ part) w' counts reply new answer;
+        history = history_whole kind start base bytes kept store first w served (served.rest ++ part) w' counts reply new answer all;
         sound = served.sound;
         tied = tied;
         stand = stand;

@@ -206,11 +206,11 @@ module _ (kind : Kind) (old : State) (request : Request) (has : has_slice reques
       )),
     )
 
-  pub served_made : (end : LineEnd) → SliceMade kind end ends.1 store mid b → EndsServed kind end old request store a b
+  pub served_made : (end : LineEnd) → SliceMade slice_blocks kind end ends.1 store mid b → EndsServed kind end old request store a b
   served_made end made = served_by made.crash made.reads made.writes end made.ends
 
 module _ (kind : Kind) (tells tells_output : Bool) (request : Request) (has : has_slice request ≡ true) (end : LineEnd) (store between new : StoreValue) (a mid b : World) (now_mid : SaidByNow mid)
-    (answers : AnswersLine kind tells tells_output request Next store between a mid) (onward : IsTrue tells_output → SaysOnward a mid) (slice : MakesSlice kind tells end between new mid b) where
+    (answers : AnswersLine kind tells tells_output request Next store between a mid) (onward : IsTrue tells_output → SaysOnward a mid) (slice : MakesSlice slice_blocks kind tells end between new mid b) where
   slice_moves : LineMoves mid b
   slice_moves = record { input = ap (λ (s : Streams). s.to_take) slice.silent; counts = slice.counts }
 

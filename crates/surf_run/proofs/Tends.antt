@@ -140,9 +140,9 @@ module _ (kind : Kind) (made : Result Told StoreError) (end : LineEnd) (is : end
 module _ (kind : Kind) (tells : Bool) (made : Result Told StoreError) (end : LineEnd) (is : end ≡ end_of_change made) (before store : StoreValue) (a b : World) (told : SliceTold made a b)
     (runs : store.stopped ≡ stopped_by made) (few : store.manifest.slot ≤ 1) (moves : SomeMoves (page_bytes * before.manifest.version.pages) a b)
     (shown : IsTrue tells → IfErr made (IsScanShown store.tables b.seen.held)) (current : IsTrue tells → a.leaves a.moment a.seen.held) (kept : store.manifest.version.pages ≡ before.manifest.version.pages) where
-  pub slice_made : ((s : State) → IsTrue tells → Represents kind.spelling kind.filter_bytes before s a → Tends kind.spelling kind.filter_bytes s (told_slice made) store a b)
-      → ((s : State) → IsTrue tells → Represents kind.spelling kind.filter_bytes before s a → b.seen.reads ≤ a.seen.reads + 8) → MakesSlice kind tells end before store a b
-  slice_made answered reads = record {
+  pub slice_made : (most : ℕ) → ((s : State) → IsTrue tells → Represents kind.spelling kind.filter_bytes before s a → Tends kind.spelling kind.filter_bytes s (told_slice made) store a b)
+      → ((s : State) → IsTrue tells → Represents kind.spelling kind.filter_bytes before s a → b.seen.reads ≤ a.seen.reads + most) → MakesSlice most kind tells end before store a b
+  slice_made most answered reads = record {
     made = λ s tell tied.
         let by = answered s tell tied in
         record {

@@ -13,16 +13,16 @@ use Rattle.store_core.specs.Answers.{HasCause}
 use Rattle.store_core.specs.StoreValue.{StoreValue}
 use Rattle.store_core.specs.Represents.{Represents}
 use Rattle.surf_run.specs.Causes.{EndCause, LineMoves, LineShows, WithinPages, WritesWithin}
-use Rattle.surf_run.specs.Crash.{EachImageStandsFor, HasMapAfter, HasOldOrNewMap}
+use Rattle.surf_run.specs.Crash.{EachImageStandsFor, HasMap, HasMapAfter}
 use Rattle.surf_run.specs.Dialogue.{IsBounded, reply_bound}
 use Rattle.surf_run.specs.Kind.{Kind}
 use Rattle.surf_run.specs.declared.line_end.LineEnd.{LineEnd}
 use Rattle.surf_run.specs.declared.line_end.LineEnd.TheVariants.{End, Next, Quit}
 
--- Before the reply's first byte an image has the map before the line or that of its answer; from then on the one behind it.
+-- Before the reply's first byte an image has the map before the line or the one behind the reply; from then on the one behind it.
 abbrev pub InLine : Kind → State → Request → Reply → State → ℕ → ℕ → ℕ → Image → Type 0
 InLine kind old request reply new low high n image =
-    ((n ≡ low) × HasOldOrNewMap kind old request image) ⊎ ((low ≤ n) × (n ≤ high) × HasMapAfter kind old request reply new image)
+    ((n ≡ low) × HasMap kind old image) ⊎ ((low ≤ n) × (n ≤ high) × HasMapAfter kind old request reply new image)
 
 -- the request was answered so, with a prefix of the reply said; where it is told how much it may read, no more blocks were read than these
 pub record LineAnswer (kind : Kind) (old : State) (request : Request) (reply : Reply) (new : State) (most : ℕ) (a b : World) : Type 0 where

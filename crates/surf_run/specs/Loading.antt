@@ -1,5 +1,5 @@
 -- What each part of a load promises.
-use Rattle.std.specs.Prelude.{◌≡◌, ◌⊎◌, ◌*◌, ℕ, Bool, true, false, List, Result, IfOk, IfErr, MatchResult, IsTrue}
+use Rattle.std.specs.Prelude.{◌≡◌, ◌⊎◌, ◌≤◌, ◌+◌, ◌*◌, ℕ, Bool, true, false, List, Result, IfOk, IfErr, MatchResult, IsTrue}
 use Rattle.block_model.specs.Pages.{page_bytes}
 use Rattle.disk_trait.specs.World.{Image, World}
 use Rattle.entry_model.specs.Entries.{Entry, changed}
@@ -15,7 +15,7 @@ use Rattle.store_core.specs.Represents.{Represents}
 use Rattle.store_core.specs.declared.error.StoreError.{StoreError}
 use Rattle.store_core.specs.declared.error.StoreError.TheVariants as error
 use Rattle.surf_run.specs.Causes.{EndCause, LineMoves, MeetsUnsaid, NoFall, WithinPages, WritesWithin}
-use Rattle.surf_run.specs.Crash.{EachImageStandsFor, HasOldOrNewMap}
+use Rattle.surf_run.specs.Crash.{EachImageStandsFor, HasMap, HasOldOrNewMap}
 use Rattle.surf_run.specs.Kind.{Kind}
 use Rattle.surf_run.specs.Loads.{FailsAt, HasFirstSteps, IsPassedOver, StepMade, StepsMade, change_of}
 use Rattle.surf_run.specs.Unserved.{LastLine}
@@ -49,9 +49,12 @@ abbrev pub stepped_map : Bool → Map → Entry → Map
 stepped_map true map step = changed map step
 stepped_map false map step = map
 
--- the last line of a run that ends in a step: `memory`, with the state as it was, or that of a device that failed
+-- The last line of a run that ends in a step: `memory`, with the state as it was, and its map at each moment meanwhile; or that of a
+-- device that failed.
 abbrev pub IsStepText : Kind → Entry → State → World → World → ℕ → Bytes → Type 0
-IsStepText kind step s a b status text = ((status ≡ 7) × (text ≡ text_of Memory) × EachImageStandsFor kind s b) ⊎ ((status ≡ 4) × FailsAt (HasCause a b) kind.filter_bytes step s text)
+IsStepText kind step s a b status text =
+    ((status ≡ 7) × (text ≡ text_of Memory) × EachImageStandsFor kind s b × During (λ said image. HasMap kind s image) a b)
+    ⊎ ((status ≡ 4) × FailsAt (HasCause a b) kind.filter_bytes step s text)
 
 -- The change of a step was made: the store is that of the state behind it.
 abbrev pub IsChanged : Kind → Entry → State → StoreValue → World → World → Bool → Type 0
@@ -64,19 +67,21 @@ IsStepped kind step s store a b done =
     (reply : Reply) × (after : State) × StepMade (HasCause a b) kind.filter_bytes step reply s after × IsAnswer done reply × Represents kind.spelling kind.filter_bytes store after b
     × EachImageStandsFor kind after b × (state_map after ≡ stepped_map done (state_map s) step)
 
--- It was made so, or the run ends and says its last line; at each moment a crash leaves the map before the step or that of its answer.
-pub record StepEnds (IsMade : Bool → Type 0) (kind : Kind) (step : Entry) (result : Result Bool ℕ) (s : State) (a b : World) : Type 0 where
+-- It was made so, or the run ends and says its last line; at each moment a crash leaves the map before the step or that of its
+-- answer; and no more blocks were read than these.
+pub record StepEnds (IsMade : Bool → Type 0) (most : ℕ) (kind : Kind) (step : Entry) (result : Result Bool ℕ) (s : State) (a b : World) : Type 0 where
   pub ends : MatchResult result IsMade (λ status. LastLine (IsStepText kind step s a b) status a b)
   pub crash : During (λ said image. HasStep kind s step image) a b
+  pub reads : b.seen.reads ≤ a.seen.reads + most
   pub writes : WritesWithin (page_bytes * s.pages) a b
 
 -- why a run ends in a step
 abbrev pub StepCause : Type 0 → ℕ → World → World → Type 0
 StepCause Told status a b = (status ≡ 7) ⊎ EndCause (λ w. Told → MeetsUnsaid a w) (End status) a b
 
--- What it promises over a running store: where it was made nothing is said, and the store runs.
-pub record MakesStep (IsMade : State → Bool → Type 0) (kind : Kind) (tells tells_output : Bool) (step : Entry) (result : Result Bool ℕ) (store new : StoreValue) (a b : World) : Type 0 where
-  pub made : (s : State) → IsTrue tells → IsTrue tells_output → Represents kind.spelling kind.filter_bytes store s a → StepEnds (IsMade s) kind step result s a b
+-- What it promises over a running store, with so many blocks read: where it was made nothing is said, and the store runs.
+pub record MakesStep (IsMade : State → Bool → Type 0) (most : ℕ) (kind : Kind) (tells tells_output : Bool) (step : Entry) (result : Result Bool ℕ) (store new : StoreValue) (a b : World) : Type 0 where
+  pub made : (s : State) → IsTrue tells → IsTrue tells_output → Represents kind.spelling kind.filter_bytes store s a → StepEnds (IsMade s) most kind step result s a b
   pub running : IfOk result (λ done. new.stopped ≡ false)
   pub silent : IfOk result (λ done. b.beside ≡ a.beside)
   pub cause : IfErr result (λ status. StepCause (IsTrue tells) status a b)

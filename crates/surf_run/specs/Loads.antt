@@ -73,11 +73,11 @@ MapAfterSteps kind start kept image = StandsForMap kind.spelling (fold changed (
 abbrev pub HasFirstSteps : Kind → State → List Entry → Image → Type 0
 HasFirstSteps kind start kept image = (first : List Entry) × (later : List Entry) × (kept ≡ first ++ later) × MapAfterSteps kind start first image
 
--- Of the steps that were made these were kept: the image has the map of some first of them, or, where a next step was at hand, the
--- one of its answer.
-abbrev pub CrashOfLoad : Kind → State → ℕ → ℕ → ℕ → List Entry → State → Image → Type 0
-CrashOfLoad kind start seed count made kept now image =
-    HasFirstSteps kind start kept image ⊎ ((made < count) × HasMap kind (answer kind.filter_bytes now (change_of (step_behind seed made))).1 image)
+-- Of the steps that were made these were kept: the image has the map of some first of them; or, where the device failed in a next
+-- step, as the last line of this status tells, the one of that step's answer.
+abbrev pub CrashOfLoad : Kind → State → ℕ → ℕ → ℕ → List Entry → State → ℕ → Image → Type 0
+CrashOfLoad kind start seed count made kept now meant image =
+    HasFirstSteps kind start kept image ⊎ ((meant ≡ 4) × (made < count) × HasMap kind (answer kind.filter_bytes now (change_of (step_behind seed made))).1 image)
 
 -- The first n steps were made of a state: these were kept, so many others refused, and this state stands behind them, whose map is the
 -- one that the kept ones make.
@@ -122,7 +122,7 @@ pub record LoadEnds (kind : Kind) (status : ℕ) (start : State) (seed count : �
   pub within : made ≤ count
   pub line : LastLine (IsLoadText kind seed count made refused now old new) status old new
   pub input : new.beside.to_take ≡ old.beside.to_take
-  pub crash : During (λ said image. CrashOfLoad kind start seed count made kept now image) old new
+  pub crash : During (λ said image. CrashOfLoad kind start seed count made kept now line.0 image) old new
   pub writes : WritesWithin (page_bytes * start.pages) old new
 
 -- the statuses of a run of it that was begun

@@ -1,5 +1,5 @@
 -- What a crash leaves of lines that one sorted map answers, whatever tables and merges there are.
-use Rattle.std.specs.Prelude.{◌≡◌, ◌⊎◌, ◌≤◌, ◌<◌, ℕ, List, [], ◌∷◌, ◌++◌, length, take, Some}
+use Rattle.std.specs.Prelude.{◌≡◌, ◌⊎◌, ◌≤◌, ◌<◌, ℕ, List, [], ◌∷◌, ◌++◌, drop, length, take, Some}
 use Rattle.disk_trait.specs.World.{Image, World}
 use Rattle.filter_api.specs.Spellings.{Spelling}
 use Rattle.image_model.specs.Stands.{StandsForMap}
@@ -21,18 +21,22 @@ IsDevice map request reply = reply ≡ Device
 abbrev pub IsOldOrNewMap : Map → Request → Map → Type 0
 IsOldOrNewMap map request now = (now ≡ map) ⊎ (now ≡ map_behind request Done map)
 
--- After these lines, with this part of the next line's reply said: before its first byte the map is the one before that line, or has
--- its change; from then on it is the one after the reply, but for `device`, which leaves either.
-abbrev pub IsMapAfter : Map → List Bytes → Bytes → Map → Type 0
-IsMapAfter map [] part now = (part ≡ []) × (now ≡ map)
-IsMapAfter map (line ∷ more) part now =
-    ((part ≡ []) × IsOldOrNewMap map (request_of line) now)
-    ⊎ ((reply : Reply) × (rest : Bytes) × (text_of reply ≡ part ++ rest) × (IsMapReply map (request_of line) reply ⊎ IsRefusal reply ⊎ IsDevice map (request_of line) reply)
+-- what was said then goes on as this text does: it begins with it, or ends within it
+abbrev pub GoesOnAs : Bytes → Bytes → Type 0
+GoesOnAs text then = ((more : Bytes) × (then ≡ text ++ more)) ⊎ ((unsaid : Bytes) × (text ≡ then ++ unsaid))
+
+-- After these lines, with this part of the next line's reply said, and this then: before its first byte the map is the one before
+-- that line or the one after the reply that is said; from then on it is the one after the reply. But `device` leaves either.
+abbrev pub IsMapAfter : Map → List Bytes → Bytes → Bytes → Map → Type 0
+IsMapAfter map [] part then now = (part ≡ []) × (now ≡ map)
+IsMapAfter map (line ∷ more) part then now =
+    ((part ≡ []) × (now ≡ map))
+    ⊎ ((reply : Reply) × (rest : Bytes) × (text_of reply ≡ part ++ rest) × GoesOnAs rest then × (IsMapReply map (request_of line) reply ⊎ IsRefusal reply ⊎ IsDevice map (request_of line) reply)
     × ((now ≡ map_behind (request_of line) reply map) ⊎ ((reply ≡ Device) × IsOldOrNewMap map (request_of line) now)))
 
 -- Of all that was said at the end, `told`, n bytes had been said; `before` was said before the run. They are one map's replies to
 -- some first lines, and maybe a part of the next line's reply. This map is the one after those lines, or after one more: so it has
--- each change whose `ok` had been said by then.
+-- each change whose `ok` had been said by then, and none that is said to be refused.
 pub record KeepsOneMap (start : Map) (lines : List Bytes) (before told : Bytes) (n : ℕ) (now : Map) : Type 0 where
   pub so_far : List Bytes
   pub later : List Bytes
@@ -43,7 +47,7 @@ pub record KeepsOneMap (start : Map) (lines : List Bytes) (before told : Bytes) 
   pub within : n ≤ length told
   pub part : Bytes
   pub said : take n told ≡ before ++ (text ++ part)
-  pub there : IsMapAfter map later part now
+  pub there : IsMapAfter map later part (drop n told) now
 
 -- the image stands for such a map
 abbrev pub HasOneMap : Spelling → Map → List Bytes → Bytes → Bytes → ℕ → Image → Type 0

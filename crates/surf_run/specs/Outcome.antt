@@ -124,12 +124,13 @@ pub record OutputFailed (kind : Kind) (start : State) (base : ℕ) (taken : Byte
   pub taken_to : TakenTo piece_bytes taken lines line
   pub breaks : ReplyCutOffAt kind start base lines line old new
 
--- what was said by the status, and what each image that a crash may leave at each moment stands for
+-- What was said by the status, and what each image that a crash may leave at each moment stands for. To the last line it comes
+-- where less was taken than may be: at 2^40 bytes the input is cut off, be it at its end or not.
 pub record EndOfServe (kind : Kind) (status : ℕ) (start : State) (base : ℕ) (taken : Bytes) (old new : World) : Type 0 where
   pub serving : IsServing status
   pub ended :
       status ≡ 0
-      → (SaidWholeScript kind ToLast start taken old new × LeavesState kind start base (lines_of taken) old new)
+      → (SaidWholeScript kind ToLast start taken old new × LeavesState kind start base (lines_of taken) old new × (length taken < max_input_bytes))
       ⊎ (SaidWholeScript kind AtQuit start taken old new × LastReplyTo kind piece_bytes AtQuit Bye start base taken old new)
   pub device : status ≡ 4 → SaidWholeScript kind AtDevice start taken old new × EndsAtDevice kind piece_bytes start base taken old new
   pub cut : (status ≡ 3) ⊎ (status ≡ 9) → InputCutOff kind start base taken old new

@@ -23,7 +23,8 @@ use Rattle.surf_run.specs.Outcome.{LastReply, ReplyCutOffAt, TakenPast}
 use Rattle.surf_run.specs.declared.line_end.LineEnd.{LineEnd}
 use Rattle.surf_run.specs.declared.line_end.LineEnd.TheVariants.{End, Next, Quit}
 
--- since the first world, of these bytes the whole lines were answered, and the rest is kept
+-- Since the first world, of these bytes the whole lines were answered, and the rest is kept. What a crash leaves is told whatever
+-- is said then, since each reply was said whole.
 pub record ServeInvariant (kind : Kind) (start : State) (base : ℕ) (bytes kept : Bytes) (store : StoreValue) (first w : World) : Type 0 where
   pub lines : List Bytes
   pub rest : Bytes
@@ -37,7 +38,7 @@ pub record ServeInvariant (kind : Kind) (start : State) (base : ℕ) (bytes kept
   pub sound : IsSound kind.filter_bytes start
   pub told : w.beside.said ≡ first.beside.said ++ text
   pub held : PendingLine rest kept
-  pub history : During (KeepsAcknowledged (HasCause first w) kind start lines first.beside.said w.beside.said) first w
+  pub history : (then : Bytes) → During (KeepsAcknowledged (HasCause first w) kind start lines first.beside.said (w.beside.said ++ then)) first w
   pub tied : Represents kind.spelling kind.filter_bytes store now w
   pub stand : EachImageStandsFor kind now w
   pub counts : NoFall first w

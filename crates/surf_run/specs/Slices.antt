@@ -13,7 +13,7 @@ use Rattle.store_core.specs.Represents.{Represents}
 use Rattle.surf_run.specs.Answering.{LineAnswer, RunsOn, Whole}
 use Rattle.surf_run.specs.Causes.{EndCause, LineMoves, NoFall, ServedShows, SliceShows, WithinPages, WritesWithin}
 use Rattle.surf_run.specs.Crash.{EachImageStandsFor, HasMap, WasStateAt}
-use Rattle.surf_run.specs.Dialogue.{line_bound, slice_blocks}
+use Rattle.surf_run.specs.Dialogue.{line_bound}
 use Rattle.surf_run.specs.Kind.{Kind}
 use Rattle.surf_run.specs.declared.line_end.LineEnd.{LineEnd}
 use Rattle.surf_run.specs.declared.line_end.LineEnd.TheVariants.{End, Next, Quit}
@@ -35,16 +35,17 @@ EndsSlice kind (End status) s store a b =
     (status ≡ 4) × (tended : Tended) × (after : State) × Tend (HasCause a b) kind.filter_bytes s tended after × (Over AtDevice ≡ turn_of_slice tended)
     × TiedRunning kind store after b
 
--- It ended so; at each moment meanwhile a crash leaves the map that was there, and no more blocks were read than a slice may read.
-pub record SliceMade (kind : Kind) (end : LineEnd) (s : State) (store : StoreValue) (a b : World) : Type 0 where
+-- It ended so; at each moment meanwhile a crash leaves the map that was there, and no more blocks were read than these.
+pub record SliceMade (most : ℕ) (kind : Kind) (end : LineEnd) (s : State) (store : StoreValue) (a b : World) : Type 0 where
   pub ends : EndsSlice kind end s store a b
   pub crash : Meanwhile (HasMap kind s) a b
-  pub reads : b.seen.reads ≤ a.seen.reads + slice_blocks
+  pub reads : b.seen.reads ≤ a.seen.reads + most
   pub writes : WritesWithin (page_bytes * s.pages) a b
 
--- What a merge slice over a running store promises, whatever the device holds: nothing is said or taken, and why the run ends.
-pub record MakesSlice (kind : Kind) (tells : Bool) (end : LineEnd) (store new : StoreValue) (a b : World) : Type 0 where
-  pub made : (s : State) → IsTrue tells → Represents kind.spelling kind.filter_bytes store s a → SliceMade kind end s new a b
+-- What a merge slice of at most so many blocks promises over a running store, whatever the device holds: nothing is said or taken,
+-- and why the run ends.
+pub record MakesSlice (most : ℕ) (kind : Kind) (tells : Bool) (end : LineEnd) (store new : StoreValue) (a b : World) : Type 0 where
+  pub made : (s : State) → IsTrue tells → Represents kind.spelling kind.filter_bytes store s a → SliceMade most kind end s new a b
   pub silent : b.beside ≡ a.beside
   pub running : RunsOn end new.stopped
   pub cause : EndCause (SliceShows (IsTrue tells) new.tables) end a b

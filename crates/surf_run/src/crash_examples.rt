@@ -6,15 +6,17 @@ ghost use Rattle.map_model.specs.SortedMap.{Map};
 ghost use Rattle.surf_run.specs.MapCrash.{IsDevice, IsMapAfter, IsOldOrNewMap, KeepsOneMap};
 
 /// With no line to follow the map is the one that is there. Before its `ok` a put may be there or not; from the first byte of
-/// `ok` on it is there; where `device` is said it may be there or not.
+/// `ok` on it is there; where `device` is said it may be there or not; where `memory` is said it was never there.
 pub fn one_put()
-    ensures no_line { IsMapAfter [] [] [] [] }
+    ensures no_line { IsMapAfter [] [] [] [] [] }
     ensures not_there { IsOldOrNewMap [] (Put (97 ∷ []) (98 ∷ [])) [] }
     ensures there { IsOldOrNewMap [] (Put (97 ∷ []) (98 ∷ [])) ((97 ∷ [], 98 ∷ []) ∷ []) }
-    ensures nothing_said { IsMapAfter [] (codes "put 61 62" ∷ []) [] ((97 ∷ [], 98 ∷ []) ∷ []) }
-    ensures part_of_ok { IsMapAfter [] (codes "put 61 62" ∷ []) (codes "o") ((97 ∷ [], 98 ∷ []) ∷ []) }
-    ensures part_of_device { IsMapAfter [] (codes "put 61 62" ∷ []) (codes "d") [] }
-    ensures device_after_the_write { IsMapAfter [] (codes "put 61 62" ∷ []) (codes "d") ((97 ∷ [], 98 ∷ []) ∷ []) }
+    ensures nothing_said { IsMapAfter [] (codes "put 61 62" ∷ []) [] [] ((97 ∷ [], 98 ∷ []) ∷ []) }
+    ensures before_ok { IsMapAfter [] (codes "put 61 62" ∷ []) [] (codes "ok" ++ 10 ∷ codes "none") ((97 ∷ [], 98 ∷ []) ∷ []) }
+    ensures before_memory { IsMapAfter [] (codes "put 61 62" ∷ []) [] (codes "m") ((97 ∷ [], 98 ∷ []) ∷ []) → ⊥ }
+    ensures part_of_ok { IsMapAfter [] (codes "put 61 62" ∷ []) (codes "o") [] ((97 ∷ [], 98 ∷ []) ∷ []) }
+    ensures part_of_device { IsMapAfter [] (codes "put 61 62" ∷ []) (codes "d") (codes "e") [] }
+    ensures device_after_the_write { IsMapAfter [] (codes "put 61 62" ∷ []) (codes "d") (codes "e") ((97 ∷ [], 98 ∷ []) ∷ []) }
     ensures ok_said { KeepsOneMap [] (codes "put 61 62" ∷ []) [] (codes "ok" ++ 10 ∷ []) 3 ((97 ∷ [], 98 ∷ []) ∷ []) }
 {}
 

@@ -1,7 +1,7 @@
 //! Lines in, replies out.
 ghost use Rattle.std.specs.Prelude.{◌≡◌, ◌⊎◌, ◌<◌, ◌≤◌, ◌*◌, ◌++◌, [], ◌∷◌, List, ℕ, false, length, IsTrue};
 ghost use Rattle.block_model.specs.Pages.{page_bytes};
-ghost use Rattle.key_base.specs.Limits.{piece_bytes};
+ghost use Rattle.key_base.specs.Limits.{max_input_bytes, piece_bytes};
 ghost use Rattle.state_model.specs.State.{State};
 ghost use Rattle.store_commands.specs.Cutting.{NoNewline};
 ghost use Rattle.surf_run.specs.Causes.{IsServing, LineMoves, NoFall, ShowsSomeDamage, StatusCause, WritesWithin};
@@ -76,7 +76,7 @@ fn end_input<F: RangeFilter, W: Outside>(
 ) -> u8
     requires buffer { 0 < length buffer.old }
     requires running { store.old.stopped ≡ false }
-    ensures settled { (start : State) (base : ℕ) (first : _) (taken : List ℕ) → IsTrue W.tells → IsTrue W.tells_output → (W.world out.old).beside.to_take ≡ []
+    ensures settled { (start : State) (base : ℕ) (first : _) (taken : List ℕ) → IsTrue W.tells → IsTrue W.tells_output → (W.world out.old).beside.to_take ≡ [] → length taken < max_input_bytes
         → ServeInvariant (filter_kind F.spelling F.built_cutoff) start base taken pending.now store.old (W.world first) (W.world out.old)
         → EndOfServe (filter_kind F.spelling F.built_cutoff) result start base taken (W.world first) (W.world out.new) }
     ensures cause { StatusCause result (W.world out.old) (W.world out.new) }

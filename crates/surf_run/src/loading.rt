@@ -23,6 +23,7 @@ ghost use Rattle.store_core.specs.Scans.{IsScanShown};
 ghost use Rattle.store_core.specs.Represents.{Represents};
 ghost use Rattle.surf_run.specs.Causes.{IfDevice, LineMoves, RunMeetsDamage, SayFailed, ShowsSomeDamage, StatusCause, WithinPages, WritesWithin};
 ghost use Rattle.surf_run.specs.ServedOrNot.{HasNoState, NoLineAnswered, OpensNothing, SomeFailed, TellsDamage};
+ghost use Rattle.surf_run.specs.Dialogue.{slice_blocks};
 ghost use Rattle.surf_run.specs.Kind.{filter_kind};
 ghost use Rattle.surf_run.specs.Loading.{IsChanged, IsStepped, LoadInvariant, MakesStep, StepCause, is_passed_over};
 ghost use Rattle.surf_run.specs.Loads.{IsLoading, LoadEnds, Loads, change_of};
@@ -32,7 +33,7 @@ ghost use Rattle.table_file.specs.Faults.{filter_fault_of};
 ghost use Rattle.table_model.specs.Tables.{filter_bytes_of};
 
 use crate::line_end::LineEnd;
-use crate::one_line::merge_slice;
+use crate::one_line::{SLICE_BLOCKS, merge_slice};
 use crate::opening::{open_or_say, say_why};
 use crate::saying::say_last;
 use filter_api::RangeFilter;
@@ -76,7 +77,7 @@ fn make_change<F: RangeFilter, W: Outside>(
     step: LoadStep,
 ) -> Result<bool, u8>
     requires running { store.old.stopped ≡ false }
-    ensures { MakesStep (λ s done. IsChanged (filter_kind F.spelling F.built_cutoff) (entry_of step.key step.value) s store.new (W.world out.old) (W.world out.new) done) (filter_kind F.spelling F.built_cutoff)
+    ensures { MakesStep (λ s done. IsChanged (filter_kind F.spelling F.built_cutoff) (entry_of step.key step.value) s store.new (W.world out.old) (W.world out.new) done) 0 (filter_kind F.spelling F.built_cutoff)
         W.tells W.tells_output (entry_of step.key step.value) result store.old store.new (W.world out.old) (W.world out.new) }
 {
     let written = write_step(store, out, step);
@@ -99,11 +100,11 @@ fn make_step<F: RangeFilter, W: Outside>(
     step: LoadStep,
 ) -> Result<bool, u8>
     requires running { store.old.stopped ≡ false }
-    ensures { MakesStep (λ s done. IsStepped (filter_kind F.spelling F.built_cutoff) (entry_of step.key step.value) s store.new (W.world out.old) (W.world out.new) done) (filter_kind F.spelling F.built_cutoff)
+    ensures { MakesStep (λ s done. IsStepped (filter_kind F.spelling F.built_cutoff) (entry_of step.key step.value) s store.new (W.world out.old) (W.world out.new) done) slice_blocks (filter_kind F.spelling F.built_cutoff)
         W.tells W.tells_output (entry_of step.key step.value) result store.old store.new (W.world out.old) (W.world out.new) }
 {
     let done = make_change(store, out, step)?;
-    match merge_slice(store, out) {
+    match merge_slice(store, out, SLICE_BLOCKS) {
         LineEnd::End(status) => Err(status),
         _ => Ok(done),
     }

@@ -1,5 +1,5 @@
 //! A line, answered, and the merge slice behind it.
-ghost use Rattle.std.specs.Prelude.{◌≡◌, ◌<◌, true, false, length};
+ghost use Rattle.std.specs.Prelude.{◌≡◌, ◌<◌, ◌≤◌, true, false, length};
 ghost use Rattle.line_model.specs.Requests.{request_of};
 ghost use Rattle.state_model.specs.PlayLaws.{has_slice};
 ghost use Rattle.store_commands.specs.Asks.{asked};
@@ -17,8 +17,8 @@ use store_core::{Store, StoreError, Tended};
 // The bytes in which a reply is laid out, a piece at a time.
 const REPLY_BYTES: usize = 4_096;
 
-// The blocks that a merge slice reads at most.
-const SLICE_BLOCKS: u32 = 8;
+/// The blocks that a merge slice reads at most.
+pub(crate) const SLICE_BLOCKS: u32 = 8;
 
 // Whether a merge slice comes behind the line that asks this.
 fn is_change(request: &Request<'_>) -> bool
@@ -37,13 +37,18 @@ fn end_of_slice(tended: Result<Tended, StoreError>) -> LineEnd
     }
 }
 
-/// Goes on with the merge that runs, or begins one where some tables are to be merged. Nothing is said of it: want of memory, of room
-/// or of an epoch is left for the next slice.
-pub(crate) fn merge_slice<F: RangeFilter, W: Outside>(store: &mut Store<F>, out: &mut W) -> LineEnd
+/// Goes on with the merge that runs, or begins one where some tables are to be merged, and reads at most so many blocks. Nothing is
+/// said of it: want of memory, of room or of an epoch is left for the next slice.
+pub(crate) fn merge_slice<F: RangeFilter, W: Outside>(
+    store: &mut Store<F>,
+    out: &mut W,
+    blocks: u32,
+) -> LineEnd
     requires running { store.old.stopped ≡ false }
-    ensures { MakesSlice (filter_kind F.spelling F.built_cutoff) W.tells result store.old store.new (W.world out.old) (W.world out.new) }
+    requires some { 1 ≤ blocks }
+    ensures { MakesSlice blocks (filter_kind F.spelling F.built_cutoff) W.tells result store.old store.new (W.world out.old) (W.world out.new) }
 {
-    let tended = store.tend(out, SLICE_BLOCKS);
+    let tended = store.tend(out, blocks);
     store.consistency_law();
     end_of_slice(tended)
 }
@@ -61,7 +66,7 @@ fn serve_change<F: RangeFilter, W: Outside>(
     ensures { ServesLine (filter_kind F.spelling F.built_cutoff) W.tells W.tells_output (asked request.entry) result store.old store.new (W.world out.old) (W.world out.new) }
 {
     match answer_request(store, buffer, out, request) {
-        LineEnd::Next => merge_slice(store, out),
+        LineEnd::Next => merge_slice(store, out, SLICE_BLOCKS),
         end => end,
     }
 }

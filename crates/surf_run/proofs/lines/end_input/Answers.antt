@@ -13,19 +13,19 @@ use Rattle.surf_run.proofs.Footprint.{within_none}
 use Rattle.surf_run.proofs.lines.end_input.Goals as goal
 
 pub returns-then-is_empty-clause-settled : goal.returns-then-is_empty-clause-settled
-returns-then-is_empty-clause-settled g c start base first taken tells output none served =
-    settled_empty (filter_kind g.F.RangeFilter.spelling g.F.RangeFilter.built_cutoff) start base taken c.args.pending.now c.args.store.now _ _ served none (eqb-true _ 0 (sym c.if-is_empty.ensures))
+returns-then-is_empty-clause-settled g c start base first taken tells output none less served =
+    settled_empty (filter_kind g.F.RangeFilter.spelling g.F.RangeFilter.built_cutoff) start base taken c.args.pending.now c.args.store.now _ _ served none less (eqb-true _ 0 (sym c.if-is_empty.ensures))
 
 pub returns-in-Next-clause-settled : goal.returns-in-Next-clause-settled
-returns-in-Next-clause-settled g c start base first taken tells output none served =
+returns-in-Next-clause-settled g c start base first taken tells output none less served =
     let some : 0 < length c.args.pending.now = let not = eqb-false _ 0 (sym c.if-is_empty.ensures) in omega arith in
     let same : request_of c.as_slice.result.now ≡ request_of served.rest = ap request_of c.as_slice.ensures ∙ request_held served.rest c.args.pending.now served.held in
-    settled_next (filter_kind g.F.RangeFilter.spelling g.F.RangeFilter.built_cutoff) start base taken c.args.pending.now c.args.store.now _ _ _ served some (c.answer.ensures.moves.input ∙ none) c.answer.ensures.moves.counts c.answer.new.store
+    settled_next (filter_kind g.F.RangeFilter.spelling g.F.RangeFilter.built_cutoff) start base taken c.args.pending.now c.args.store.now _ _ _ served some (c.answer.ensures.moves.input ∙ none) c.answer.ensures.moves.counts less c.answer.new.store
     (subst (λ (k : Request). EndsServed (filter_kind g.F.RangeFilter.spelling g.F.RangeFilter.built_cutoff) Next served.now k c.answer.new.store (g.W.Disk.world c.args.out.now) (g.W.Disk.world c.answer.new.out)) same
     (c.in-Next.ensures.served served.now tells output served.tied))
 
 pub returns-in-Quit-clause-settled : goal.returns-in-Quit-clause-settled
-returns-in-Quit-clause-settled g c start base first taken tells output none served =
+returns-in-Quit-clause-settled g c start base first taken tells output none less served =
     let some : 0 < length c.args.pending.now = let not = eqb-false _ 0 (sym c.if-is_empty.ensures) in omega arith in
     let same : request_of c.as_slice.result.now ≡ request_of served.rest = ap request_of c.as_slice.ensures ∙ request_held served.rest c.args.pending.now served.held in
     settled_bye (filter_kind g.F.RangeFilter.spelling g.F.RangeFilter.built_cutoff) start base taken c.args.pending.now c.args.store.now _ _ _ served some (c.answer.ensures.moves.input ∙ none) c.answer.ensures.moves.counts c.answer.new.store (g.met.W.Outside.said_now _)
@@ -33,7 +33,7 @@ returns-in-Quit-clause-settled g c start base first taken tells output none serv
     (c.in-Quit.ensures.served served.now tells output served.tied))
 
 pub returns-in-End-clause-settled : goal.returns-in-End-clause-settled
-returns-in-End-clause-settled g c start base first taken tells output none served =
+returns-in-End-clause-settled g c start base first taken tells output none less served =
     let some : 0 < length c.args.pending.now = let not = eqb-false _ 0 (sym c.if-is_empty.ensures) in omega arith in
     let same : request_of c.as_slice.result.now ≡ request_of served.rest = ap request_of c.as_slice.ensures ∙ request_held served.rest c.args.pending.now served.held in
     settled_status (filter_kind g.F.RangeFilter.spelling g.F.RangeFilter.built_cutoff) start base taken c.args.pending.now c.args.store.now _ _ _ served some (c.answer.ensures.moves.input ∙ none) c.answer.ensures.moves.counts c.in-End.status c.answer.new.store

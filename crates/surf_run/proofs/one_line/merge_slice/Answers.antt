@@ -13,5 +13,5 @@ returns g c =
     slice_made (filter_kind g.F.RangeFilter.spelling g.F.RangeFilter.built_cutoff) g.W.Disk.tells made c.end_of_slice.result c.end_of_slice.ensures c.args.store.now after a b
     (slice_told made c.args.store.now after c.args.store.now.stopped c.args.store.now.manifest.version.epoch a b c.requires.running c.tend-tended.ensures.refused)
     (stopped_is c.args.store.now.stopped after.stopped (stopped_by made) c.requires.running c.tend-tended.ensures.stopped) c.consistency_law.ensures.slot c.tend-tended.ensures.moves
-    (λ tells. c.tend-tended.ensures.shown tells) (λ tells. g.met.W.Disk.current c.args.out.now tells) c.tend-tended.ensures.pages
+    (λ tells. c.tend-tended.ensures.shown tells) (λ tells. g.met.W.Disk.current c.args.out.now tells) c.tend-tended.ensures.pages c.args.blocks
     (λ s tells tied. c.tend-tended.ensures.answered s tells c.requires.running tied) (λ s tells tied. c.tend-tended.ensures.reads s tells tied)
