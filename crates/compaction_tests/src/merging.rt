@@ -6,12 +6,12 @@ use crate::made::{Named, add, placed, tables_of};
 use disk_mem::MemDisk;
 use disk_trait::{DiskFault, Op};
 use extent_map::Extents;
-use key_base::MAX_TABLES;
+use key_base::{MAX_TABLES, PAGE_BYTES};
 use level_merge::{Job, JobFault, Sliced, choose};
 use plain_filter::PlainFilter;
 use std::alloc::Global;
 use std::test::Fail;
-use table_file::{LARGEST_BLOCK_BYTES, Table, TableBuilder, Tables};
+use table_file::{Table, TableBuilder, Tables};
 use test_stores::{BASE, disk_of, failing};
 
 type Merge<'m> = Job<'m, PlainFilter>;
@@ -154,7 +154,8 @@ fn has(
     key: &[u8],
     value: &[u8],
 ) -> Result<bool, Fail> {
-    let mut room = vec![in alloc; 0; LARGEST_BLOCK_BYTES]?;
+    let bytes = PAGE_BYTES * table.most_block_pages() as usize;
+    let mut room = vec![in alloc; 0; bytes]?;
     Ok(table.get(disk, key, &mut room)? == Some(Some(value)))
 }
 

@@ -76,7 +76,7 @@ fn a_device_of_format_1_is_served(rt: HostRuntime) -> Result<(), Fail> {
     for row in [72, 136] {
         assert!(rt; stands(&written.disk, row + 56, b"\x04\x03\x10\x00\x00\x00\x00\x00"));
     }
-    assert!(rt; stands(&written.disk, 200, b"\x58\x29\xbc\xc9\x91\x4b\xb5\x8c"));
+    assert!(rt; stands(&written.disk, 200, b"\x42\x4b\xe8\xee\x9a\xcc\x9d\x61"));
     assert!(rt; stands(&written.disk, 131_080, b"SRFM\x01\x00\x01\x00\x02"));
     Ok(())
 }

@@ -22,6 +22,8 @@ mod moments;
 #[cfg(test)]
 mod new_stores;
 #[cfg(test)]
+mod old_blocks;
+#[cfg(test)]
 mod played;
 #[cfg(test)]
 mod refused;

@@ -103,12 +103,12 @@ fn new_tables_get_other_settings(rt: HostRuntime) -> Result<(), Fail> {
         stands(
             &set.disk,
             128,
-            b"\x00\x00@\x00\x00\x00\x00\x00\xbe\x5d\x3b\xf7\x2b\x15\x82\xfa"
+            b"\x00\x00@\x00\x00\x00\x00\x00\xfe\x6d\xf4\xf5\x8b\xbe\x86\xc3"
         )
     );
     assert!(rt; stands(&set.disk, 131_072, b"\x01"));
     assert!(rt; stands(&set.disk, 131_088, b"\x02\x00\x00\x00\x00\x00\x00\x00"));
-    assert!(rt; stands(&set.disk, 131_208, b"\x7f\xef\x6a\x63\x37\xca\xd6\x6b"));
+    assert!(rt; stands(&set.disk, 131_208, b"\x2f\x4d\x98\xab\x39\x17\xe3\xb5"));
     let lines =
         b"explain 616139\nput 62 01\nflush\nexplain 6239\ncompact\nexplain 616139\nget 616131\nget 62\n";
     let after = served(alloc, set.disk, lines)?;
@@ -150,7 +150,7 @@ fn a_device_of_format_1_gets_other_settings(rt: HostRuntime) -> Result<(), Fail>
     for (place, bytes) in [
         (131_200, b"\x00\x00@\x00\x00\x00\x00\x00"),
         (131_264, b"\x04\x03\x10\x00\x00\x00\x00\x00"),
-        (131_272, b"\xa2\xf9\x31\xb5\x23\x82\x03\x78"),
+        (131_272, b"\xe4\x69\xf2\xd1\x61\xb6\xd8\x5f"),
     ] {
         assert!(rt; stands(&after.disk, place, bytes));
     }

@@ -67,7 +67,7 @@ fn a_flush_leaves_what_is_kept(rt: HostRuntime) -> Result<(), Fail> {
 
 // The value of the one pair whose block stands in the first pages behind the logs.
 fn first_value(disk: &MemDisk) -> Option<u8> {
-    disk.bytes().get(786_448).copied()
+    disk.bytes().get(786_452).copied()
 }
 
 #[test]
@@ -99,13 +99,13 @@ fn is_damaged(found: Result<Option<&[u8]>, StoreError>) -> bool {
         Err(StoreError::Damaged(Damage::Sum {
             part: Part::Block,
             at: 786_432,
-            kept: 0xeba7_fa7c_4d3d_0fad,
-            seen: 0x48e5_c0a5_221a_7b73,
+            kept: 0x587b_62ad_428b_4221,
+            seen: 0x1330_a17f_9fbb_1d44,
         }))
     )
 }
 
-// The sums are those of the block's 4,096 bytes as they were written, and with the ninth changed from 1 to 3.
+// The sums are those of the block's 4,096 bytes as they were written, and with the ninth changed from 10 to 3.
 #[test]
 fn damage_is_seen_where_the_block_is_read(rt: HostRuntime) -> Result<(), Fail> {
     let mut disk = disk_of(rt.alloc(), &[])?;

@@ -6,7 +6,7 @@ use std::alloc::{AllocError, Global};
 use std::test::Fail;
 use store_core::{Limit, StoreError};
 use test_stores::{
-    Change, PlainScan, PlainStore, changed, disk_of, failing, opened, range_of, seek_of,
+    Change, PlainScan, PlainStore, apply, changed, disk_of, failing, opened, range_of, seek_of,
 };
 
 type Pair<'a> = (&'a [u8], &'a [u8]);
@@ -279,5 +279,27 @@ fn a_range_stands_before_a_block_that_is_damaged(rt: HostRuntime) -> Result<(), 
         walked(alloc, &mut scan, &mut disk, 3)?.as_slice(),
         b"bc.".as_slice()
     );
+    Ok(())
+}
+
+// Sixty tables of a pair each, in a block of one page.
+fn sixty_tables(alloc: Global, disk: &mut MemDisk) -> Result<Box<PlainStore>, Fail> {
+    let mut store = changed(alloc, disk, &[])?;
+    for key in 0..60u8 {
+        apply(&mut store, disk, Change::Put(&[key], b"v"))?;
+        apply(&mut store, disk, Change::Flush)?;
+    }
+    Ok(store)
+}
+
+// A block of each is read for the first pair, and has room for itself alone.
+#[test]
+fn a_seek_over_sixty_tables_reads_a_block_of_each(rt: HostRuntime) -> Result<(), Fail> {
+    let mut disk = disk_of(rt.alloc(), &[])?;
+    let store = sixty_tables(rt.alloc(), &mut disk)?;
+    let mut scan = seek_of(rt.alloc(), &store, b"", None)?;
+    let reads = disk.reads();
+    assert!(rt; gives(&mut scan, &mut disk, Some((b"\x00", b"v"))));
+    assert_eq!(rt; disk.reads().saturating_sub(reads), 60);
     Ok(())
 }

@@ -1,12 +1,14 @@
 //! A table whose allocations fail in turn. One is made to fail from outside, by its number, and then the call that wanted
 //! it leaves all as it was and succeeds when it is made again. Where none fails, each call succeeds at once.
-use crate::made::{BASE, FIRST_PAGE, Made, add, new_disk, opened, room, row_at, try_add};
+use crate::made::{
+    BASE, FIRST_PAGE, Made, Walk, add, new_disk, opened, room, row_at, try_add,
+};
 use byte_fields::Row;
 use disk_mem::MemDisk;
 use plain_filter::PlainFilter;
 use std::alloc::{AllocError, Global};
 use std::test::Fail;
-use table_file::{Parts, Table, TableBuilder, TableCursor, TableFault};
+use table_file::{Parts, Table, TableBuilder, TableFault};
 
 // Two of these are too long for one page.
 const VALUE: [u8; 3_000] = [b'v'; 3_000];
@@ -84,19 +86,20 @@ fn made(alloc: Global) -> Result<Made, Fail> {
     };
     let row = row_at(parts(alloc)?, &mut disk, FIRST_PAGE)?;
     let table = opened_again(alloc, &mut disk, &row)?;
-    let buf = match room(alloc) {
+    let buf = match room(alloc, &table) {
         Ok(buf) => buf,
-        Err(_) => room(alloc)?,
+        Err(_) => room(alloc, &table)?,
     };
     Ok(Made { disk, table, buf })
 }
 
 // A walk over a table.
-fn cursor_of(alloc: Global, made: &Made) -> Result<TableCursor, Fail> {
-    match made.table.cursor(alloc, b"b") {
-        Ok(cursor) => Ok(cursor),
-        Err(_) => Ok(made.table.cursor(alloc, b"b")?),
-    }
+fn walk_of(alloc: Global, made: Made) -> Result<Walk, Fail> {
+    let cursor = match made.table.cursor(alloc, b"b") {
+        Ok(cursor) => cursor,
+        Err(_) => made.table.cursor(alloc, b"b")?,
+    };
+    Ok(Walk { made, cursor })
 }
 
 // Whether gets say what was added.
@@ -107,18 +110,19 @@ fn is_asked(made: &mut Made) -> bool {
 }
 
 // Whether a walk from b on does.
-fn is_walked(made: &mut Made, mut cursor: TableCursor) -> bool {
-    made.steps_to(&mut cursor, Some((b"c", Some(&VALUE))))
-        && made.steps_to(&mut cursor, Some((b"e", None)))
-        && made.steps_to(&mut cursor, None)
+fn is_walked(walk: &mut Walk) -> bool {
+    walk.steps_to(Some((b"c", Some(&VALUE))))
+        && walk.steps_to(Some((b"e", None)))
+        && walk.steps_to(None)
 }
 
 // `gives` and `steps_to` count the disk's calls, and one that found no memory has no number.
 #[test]
 fn each_allocation_may_fail(rt: HostRuntime) -> Result<(), Fail> {
     let mut made = made(rt.alloc())?;
-    let cursor = cursor_of(rt.alloc(), &made)?;
-    let said = is_asked(&mut made) && is_walked(&mut made, cursor);
-    assert!(rt; said && made.disk.starved() == 0);
+    let asked = is_asked(&mut made);
+    let mut walk = walk_of(rt.alloc(), made)?;
+    let said = asked && is_walked(&mut walk);
+    assert!(rt; said && walk.made.disk.starved() == 0);
     Ok(())
 }

@@ -1,14 +1,14 @@
 //! Changed bytes, and what is said of them.
 ghost use Rattle.block_model.specs.Places.{FitsDevice};
 
-use crate::made::{one_entry, opened};
+use crate::made::{one_entry, opened, room};
 use byte_fields::{Damage, Part, Row, fnv1a};
 use disk_mem::MemDisk;
 use disk_trait::Disk;
 use plain_filter::PlainFilter;
 use std::alloc::Global;
 use std::test::Fail;
-use table_file::{LARGEST_BLOCK_BYTES, TableFault, fits_device, read_filter, read_index};
+use table_file::{TableFault, fits_device, read_filter, read_index};
 
 // Where the parts of the table of one entry begin.
 const BLOCK: u64 = 786_432;
@@ -126,6 +126,33 @@ fn another_sum_comes_before_the_rules(rt: HostRuntime) -> Result<(), Fail> {
     Ok(())
 }
 
+// The fault of the index of the one entry with so many pages in its row, behind as many pages of the device.
+fn fault_of_pages(alloc: Global, pages: u16) -> Result<Option<TableFault>, Fail> {
+    let (mut disk, mut row) = one_entry(alloc)?;
+    let mut bytes = [0; 26];
+    let mut done = disk.read(INDEX, &mut bytes).is_ok();
+    row.data_pages = u32::from(pages);
+    change(&mut bytes, 11, &row.data_pages.to_le_bytes());
+    row.index_sum = fnv1a(&bytes);
+    done = done && disk.write(BLOCK + 4_096 * u64::from(pages), &bytes).is_ok();
+    if !done || !fits_device(&row) {
+        return Err(Fail::from("no index"));
+    }
+    Ok(read_index(alloc, &mut *disk, &row).err())
+}
+
+// The pages of the first are 01 01 00 00, those of the second 02 01 00 00.
+#[test]
+fn a_row_of_an_index_has_257_pages_at_most(rt: HostRuntime) -> Result<(), Fail> {
+    assert_eq!(rt; fault_of_pages(rt.alloc(), 257)?, None);
+    let second = BLOCK + 258 * 4_096;
+    assert_eq!(rt;
+        fault_of_pages(rt.alloc(), 258)?,
+        shape(Part::Index, second + 11, 6)
+    );
+    Ok(())
+}
+
 // What the index of a row says of its blocks: how many there are, the least key, and of the first the last key and the page.
 fn read_alone(alloc: Global, disk: &mut MemDisk, row: &Row) -> Result<(u32, bool, bool, u64), Fail>
     requires { FitsDevice row.now }
@@ -207,10 +234,10 @@ fn a_filter_of_other_widths(rt: HostRuntime) -> Result<(), Fail> {
 
 // What a get of a says, and how many blocks were read for it.
 fn get_a(alloc: Global, disk: &mut MemDisk, row: &Row) -> Result<(Option<TableFault>, u64), Fail> {
-    let mut buf = vec![in alloc; 0; LARGEST_BLOCK_BYTES]?;
     let Ok(table) = opened(alloc, disk, row)? else {
         return Err(Fail::from("not opened"));
     };
+    let mut buf = room(alloc, &table)?;
     let before = disk.reads();
     let fault = match table.get(disk, b"a", &mut buf) {
         Ok(_) => None,

@@ -1,13 +1,14 @@
 //! Tables on a device whose calls fail in turn.
-use crate::made::{BASE, FIRST_PAGE, Made, add, boxed, key_of, new_disk, numbered, value_of};
+use crate::made::{
+    BASE, FIRST_PAGE, Made, Walk, add, boxed, key_of, new_disk, numbered, room, value_of,
+};
 use disk_mem::MemDisk;
 use disk_trait::{DiskFault, Op};
 use plain_filter::PlainFilter;
 use std::alloc::{AllocError, Global};
 use std::test::Fail;
 use table_file::{
-    LARGEST_BLOCK_BYTES, Parts, Table, TableBuilder, TableFault, fits_device, open_table, pages_of,
-    write_parts,
+    Parts, Table, TableBuilder, TableFault, fits_device, open_table, pages_of, write_parts,
 };
 use test_kit::failing_disk;
 
@@ -52,7 +53,7 @@ fn get_twice(
     disk: &mut MemDisk,
     table: &Table<PlainFilter>,
 ) -> Result<Option<TableFault>, Fail> {
-    let mut buf = vec![in alloc; 0; LARGEST_BLOCK_BYTES]?;
+    let mut buf = room(alloc, table)?;
     let fault = match table.get(disk, b"c", &mut buf) {
         Ok(_) => return Ok(None),
         Err(fault) => fault,
@@ -115,17 +116,17 @@ fn every_call_fails_in_turn(rt: HostRuntime) -> Result<(), Fail> {
 // How many steps of a walk over a table of 300 entries fail where this call does. Behind each the next step goes on
 // with the entry that was due.
 fn failed_steps(alloc: Global, call: u64) -> Result<usize, Fail> {
-    let mut made = Made::on(failing_disk(alloc, call)?, alloc, numbered(alloc, 300)?)?;
-    let mut cursor = made.table.cursor(alloc, b"")?;
+    let made = Made::on(failing_disk(alloc, call)?, alloc, numbered(alloc, 300)?)?;
+    let mut walk = Walk::new(alloc, made, b"")?;
     let mut failed = 0usize;
     for i in 0..300 {
         let key = key_of(i);
         let want = Some((key.as_slice(), value_of(i)));
-        if made.steps_to(&mut cursor, want) {
+        if walk.steps_to(want) {
             continue;
         }
         failed = failed.saturating_add(1);
-        if !made.steps_to(&mut cursor, want) {
+        if !walk.steps_to(want) {
             return Err(Fail::from("an entry was lost"));
         }
     }

@@ -22,6 +22,8 @@ mod made;
 #[cfg(test)]
 mod merges;
 #[cfg(test)]
+mod mixed;
+#[cfg(test)]
 mod prefixed;
 #[cfg(test)]
 mod sizes;

@@ -2,22 +2,23 @@
 //!
 //! Disks and tables are handed out in boxes: a function that has one for a local costs the check ten times what one does
 //! that has a box of it, since each of its parts that owns memory is gone into at each step.
-ghost use Rattle.std.specs.Prelude.{◌≡◌, length, IfOk};
+ghost use Rattle.std.specs.Prelude.{◌≡◌, ◌≤◌, ◌*◌, length, IfOk};
 ghost use Rattle.std.specs.Option.{option_map};
 ghost use Rattle.byte_fields.specs.Spelling.{IsBytes};
 ghost use Rattle.entry_model.specs.Entries.{bytes_of};
 ghost use Rattle.block_model.specs.Places.{FitsDevice};
+ghost use Rattle.table_file.specs.Walks.{most_block_pages};
 
 use byte_fields::Row;
 use disk_mem::MemDisk;
 use filter_api::Settings;
-use key_base::{MAX_KEY_BYTES, MAX_VALUE_BYTES};
+use key_base::{MAX_KEY_BYTES, MAX_VALUE_BYTES, PAGE_BYTES};
 use plain_filter::PlainFilter;
 use std::alloc::{AllocError, Global};
 use std::test::Fail;
 use table_file::{
-    LARGEST_BLOCK_BYTES, Parts, Table, TableBuilder, TableCursor, TableFault, fits_device,
-    open_table, pages_of, write_parts,
+    Parts, Table, TableBuilder, TableCursor, TableFault, fits_device, open_table, pages_of,
+    write_parts,
 };
 pub use test_kit::{boxed, new_disk};
 
@@ -175,9 +176,18 @@ pub fn numbered(alloc: Global, entries: u16) -> Result<TableBuilder, Fail> {
     Ok(builder)
 }
 
-/// Room for a block.
-pub fn room(alloc: Global) -> Result<Vec<u8>, AllocError> {
-    vec![in alloc; 0; LARGEST_BLOCK_BYTES]
+// The bytes of the largest block of a table.
+fn room_bytes(table: &Table<PlainFilter>) -> usize
+    ensures { result ≡ 4096 * most_block_pages table.now.index.rows }
+{
+    PAGE_BYTES * table.most_block_pages() as usize
+}
+
+/// Room for each block of a table.
+pub fn room(alloc: Global, table: &Table<PlainFilter>) -> Result<Vec<u8>, AllocError>
+    ensures { IfOk result (λ buf. 4096 * most_block_pages table.now.index.rows ≤ length buf.items) }
+{
+    vec![in alloc; 0; room_bytes(table)]
 }
 
 /// A table that was written and opened, its disk, and room for a block.
@@ -200,7 +210,7 @@ impl Made {
         let Ok(table) = opened(alloc, &mut disk, &row)? else {
             return Err(Fail::from("not opened"));
         };
-        let buf = room(alloc)?;
+        let buf = room(alloc, &table)?;
         Ok(Made { disk, table, buf })
     }
 
@@ -215,17 +225,36 @@ impl Made {
         let said = says(&self.table, &mut self.disk, key, want, &mut self.buf);
         said && self.disk.calls() == before.saturating_add(calls)
     }
+}
 
-    /// Whether the next step of a walk says this, and calls the disk once where a block is due, else not at all.
-    pub fn steps_to(
-        &mut self,
-        cursor: &mut TableCursor,
-        want: Option<(&[u8], Option<&[u8]>)>,
-    ) -> bool {
-        let calls = usize::from(cursor.due(&self.table));
-        let before = self.disk.calls();
-        let said = cursor.next(&mut *self.disk, &self.table) == Ok(want);
-        said && self.disk.calls() == before.saturating_add(calls)
+/// A walk over a table that was made, with room for each of its blocks.
+#[derive(Drop)]
+pub struct Walk {
+    pub made: Made,
+    pub cursor: TableCursor,
+    ghost roomy: { most_block_pages made.table.value.index.rows ≤ cursor.room },
+}
+
+impl Walk {
+    /// The walk from a key on.
+    pub fn new(alloc: Global, made: Made, low: &[u8]) -> Result<Walk, AllocError> {
+        let cursor = made.table.cursor(alloc, low)?;
+        Ok(Walk { made, cursor })
+    }
+
+    /// Begins it anew, from a key on.
+    pub fn begin(&mut self, alloc: Global, low: &[u8]) -> Result<(), AllocError> {
+        self.cursor = self.made.table.cursor(alloc, low)?;
+        Ok(())
+    }
+
+    /// Whether its next step says this, and calls the disk once where a block is due, else not at all.
+    pub fn steps_to(&mut self, want: Option<(&[u8], Option<&[u8]>)>) -> bool {
+        let calls = usize::from(self.cursor.due(&self.made.table));
+        let before = self.made.disk.calls();
+        let moved = self.cursor.advance(&mut *self.made.disk, &self.made.table);
+        let said = moved.is_ok() && self.cursor.entry() == want;
+        said && self.made.disk.calls() == before.saturating_add(calls)
     }
 }
 
@@ -237,5 +266,5 @@ fn says(
     want: Option<Option<&[u8]>>,
     buf: &mut [u8],
 ) -> bool {
-    buf.len() >= LARGEST_BLOCK_BYTES && table.get(disk, key, buf) == Ok(want)
+    buf.len() >= room_bytes(table) && table.get(disk, key, buf) == Ok(want)
 }

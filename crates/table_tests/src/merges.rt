@@ -2,7 +2,7 @@
 ghost use Rattle.std.specs.Prelude.{◌≡◌, IfOk, IfSome};
 ghost use Rattle.std.specs.List.{AllByRecursion};
 ghost use Rattle.entry_model.specs.Entries.{IsEntry};
-ghost use Rattle.merge_rows.specs.Steps.{AreWalksIn, numbers, stands};
+ghost use Rattle.merge_rows.specs.Steps.{AreWalksIn, stands};
 
 use crate::made::{
     BASE, FIRST_PAGE, add, boxed, bytes_in, key_of, new_disk, opened, row_at, size_of,
@@ -134,9 +134,9 @@ fn shown(memory: &MemTable, with_memory: bool) -> Option<&MemTable>
     if with_memory { Some(memory) } else { None }
 }
 
-// The rows of the memory table, if any, and of four tables.
-#[tactic(auto, using(crate::proofs::Memories::four_numbers))]
-fn rows_of<'m>(
+/// The rows of the memory table, if any, and of four tables.
+#[tactic(auto, using(crate::proofs::Memories::four_walks))]
+pub fn rows_of<'m>(
     alloc: Global,
     tables: &Tables<PlainFilter>,
     memory: Option<&'m MemTable>,
@@ -162,7 +162,7 @@ fn next_is(
     faults: &mut u8,
 ) -> bool
     requires { AreWalksIn tables.now.tables (stands rows.old.walks) }
-    ensures { numbers rows.new.walks ≡ numbers rows.old.walks }
+    ensures { stands rows.new.walks ≡ stands rows.old.walks }
 {
     if rows.advance(disk, tables).is_err() {
         *faults = faults.saturating_add(1);
@@ -258,7 +258,7 @@ fn steps(
     count: u16,
 ) -> bool
     requires { AreWalksIn tables.now.tables (stands rows.old.walks) }
-    ensures { numbers rows.new.walks ≡ numbers rows.old.walks }
+    ensures { stands rows.new.walks ≡ stands rows.old.walks }
 {
     for step in 0..count {
         if rows.advance(disk, tables).is_err() {

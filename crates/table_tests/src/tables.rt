@@ -1,15 +1,11 @@
 //! Tables that are built, written, opened, asked and walked.
 use crate::made::{
-    BASE, FIRST_PAGE, Made, add, boxed, key_of, new_disk, numbered, one_entry, opened, room,
-    row_on, value_of, written,
+    BASE, FIRST_PAGE, Made, Walk, add, boxed, key_of, new_disk, numbered, one_entry, opened,
+    value_of, written,
 };
-use byte_fields::{Row, fnv1a};
-use disk_mem::MemDisk;
+use byte_fields::Row;
 use disk_trait::Disk;
-use entry_list::{Entry, push_copy};
-use plain_blocks::{are_entries, old_block_bytes};
 use plain_filter::PlainFilter;
-use std::alloc::Global;
 use std::process::Abort;
 use std::test::Fail;
 use table_file::{Parts, Table, TableBuilder, fits_device, pages_of};
@@ -126,60 +122,14 @@ fn the_table_of_parts_is_the_one_that_is_opened(rt: HostRuntime) -> Result<(), F
 // From the key of the entry 151 on, which is in the first of four blocks.
 #[test]
 fn a_walk_reads_each_block_once(rt: HostRuntime) -> Result<(), Fail> {
-    let mut made = Made::new(rt.alloc(), numbered(rt.alloc(), 1_000)?)?;
-    let mut cursor = made.table.cursor(rt.alloc(), &301u16.to_be_bytes())?;
-    let before = made.disk.calls();
+    let made = Made::new(rt.alloc(), numbered(rt.alloc(), 1_000)?)?;
+    let mut walk = Walk::new(rt.alloc(), made, &301u16.to_be_bytes())?;
+    let before = walk.made.disk.calls();
     for i in 151..1_000 {
-        assert!(rt; made.steps_to(&mut cursor, Some((&key_of(i), value_of(i)))));
+        assert!(rt; walk.steps_to(Some((&key_of(i), value_of(i)))));
     }
-    assert!(rt; made.steps_to(&mut cursor, None));
-    assert_eq!(rt; made.table.blocks(), 4);
-    assert_eq!(rt; made.disk.calls(), before.saturating_add(4));
-    Ok(())
-}
-
-// The first 255 entries as a block of format 1, in one page as in format 2.
-fn old_block(alloc: Global) -> Result<Vec<u8>, Fail> {
-    let mut list = Vec::new(alloc);
-    for i in 0..255 {
-        push_copy(&Entry::new(alloc, &key_of(i), value_of(i))?, &mut list)?;
-    }
-    if !are_entries(list.as_slice()) {
-        return Err(Fail::from("no entries"));
-    }
-    Ok(old_block_bytes(alloc, list.as_slice())?)
-}
-
-// Writes it over the first of two blocks, keeps its sum in the index behind them, and answers the sum of that.
-fn write_old_block(alloc: Global, disk: &mut MemDisk) -> Result<u64, Fail> {
-    let block = old_block(alloc)?;
-    let mut index = [0; 44];
-    let done = disk.write(786_432, &block).is_ok() && disk.read(794_624, &mut index).is_ok();
-    index[16..24].copy_from_slice(&fnv1a(&block).to_le_bytes());
-    if !done || disk.write(794_624, &index).is_err() {
-        return Err(Fail::from("the disk failed"));
-    }
-    Ok(fnv1a(&index))
-}
-
-// The first block is of format 1, the second of format 2.
-#[test]
-fn a_table_of_both_formats(rt: HostRuntime) -> Result<(), Fail> {
-    let alloc = rt.alloc();
-    let mut disk = new_disk(alloc)?;
-    let mut row = row_on(numbered(alloc, 300)?, &mut disk)?;
-    assert_eq!(rt; (row.data_pages, row.index_len), (2, 44));
-    row.index_sum = write_old_block(alloc, &mut disk)?;
-    let Ok(table) = opened(alloc, &mut disk, &row)? else {
-        return Err(Fail::from("not opened"));
-    };
-    let buf = room(alloc)?;
-    let mut made = Made { disk, table, buf };
-    let mut cursor = made.table.cursor(alloc, b"")?;
-    for i in 0..300 {
-        assert!(rt; made.gives(&key_of(i), Some(value_of(i)), 1));
-        assert!(rt; made.steps_to(&mut cursor, Some((&key_of(i), value_of(i)))));
-    }
-    assert!(rt; made.steps_to(&mut cursor, None));
+    assert!(rt; walk.steps_to(None));
+    assert_eq!(rt; walk.made.table.blocks(), 4);
+    assert_eq!(rt; walk.made.disk.calls(), before.saturating_add(4));
     Ok(())
 }
