@@ -37,7 +37,7 @@ returns-then-taken-eq0-clause-outcome g c start base first tells input output sa
     record {
       taken = was.0;
       input = all.0 ∙ ap (λ (l : List ℕ). was.0 ++ l) (sym beside);
-      settled = c.end_input.ensures.settled start base first was.0 tells output all.1 (omega (arith, was.2, c.loop-left.true)) (served_take (filter_kind g.F.RangeFilter.spelling g.F.RangeFilter.built_cutoff) start base was.0 _ _ _ _ _ c.take.ensures.moves (g.met.W.Outside.said_now _) was.3);
+      settled = c.end_input.ensures.settled start base first was.0 tells output all.1 (omega (arith, was.2, c.loop-left-test.true)) (served_take (filter_kind g.F.RangeFilter.spelling g.F.RangeFilter.built_cutoff) start base was.0 _ _ _ _ _ c.take.ensures.moves (g.met.W.Outside.said_now _) was.3);
       limit = λ is. absurd (elim c.end_input.ensures.statuses [ inl zero ↦ cc | inr more ↦ elim more [ inl four ↦ cc | inr more ↦ elim more [ inl five ↦ cc | inr six ↦ cc ] ] ]);
       most = omega (arith, was.2);
     }
