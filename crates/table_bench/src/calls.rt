@@ -1,4 +1,7 @@
 //! The calls that are measured. Each answers a count or a sum, so that none is left out.
+ghost use Rattle.std.specs.Prelude.{◌≡◌, ◌≤◌};
+ghost use Rattle.table_file.specs.Walks.{most_block_pages};
+
 use crate::made::{FIRST_PAGE, Made};
 use anyhow::{Result, bail};
 use byte_fields::fnv1a;
@@ -42,7 +45,7 @@ pub fn gets(
 
 // 1 where a get gives a value.
 fn get(disk: &mut FileOutside, made: &Made, query: &Query, buf: &mut [u8]) -> Result<usize> {
-    if buf.len() < LARGEST_BLOCK_BYTES {
+    if buf.len() < PAGE_BYTES * made.table.most_block_pages() as usize {
         bail!("no room for a block");
     }
     match made.table.get(disk, &query.key, buf) {
@@ -153,9 +156,12 @@ pub fn walk(alloc: Global, disk: &mut FileOutside, made: &Made, pairs: u32) -> R
 }
 
 // 1 where a walk has another entry.
-fn step(disk: &mut FileOutside, made: &Made, cursor: &mut TableCursor) -> Result<usize> {
-    match cursor.next(disk, &made.table) {
-        Ok(entry) => Ok(usize::from(entry.is_some())),
+fn step(disk: &mut FileOutside, made: &Made, cursor: &mut TableCursor) -> Result<usize>
+    requires { most_block_pages made.now.table.index.rows ≤ cursor.old.room }
+    ensures { cursor.new.room ≡ cursor.old.room }
+{
+    match cursor.advance(disk, &made.table) {
+        Ok(some) => Ok(usize::from(some && cursor.entry().is_some())),
         Err(_) => bail!("a walk failed"),
     }
 }

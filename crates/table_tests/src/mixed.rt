@@ -166,7 +166,7 @@ fn built(
     requires { AreWalksIn tables.now.tables (stands rows.old.walks) }
 {
     let mut builder = TableBuilder::new(alloc, BASE);
-    for _ in 0..=ENTRIES {
+    for _ in 0..ENTRIES + 1 {
         add_row(rows, disk, tables, &mut builder)?;
     }
     Ok(builder)
