@@ -17,7 +17,7 @@ list_any-map p f [] = refl
 list_any-map p f (x ∷ xs) = ap (λ (t : Bool). p (f x) || t) (list_any-map p f xs)
 
 -- what holds of each two elements of a list holds of what f makes of them
-AllPairs-map : {X Y : Type 0} (R : Y → Y → Type 0) (f : X → Y) (xs : List X) → AllPairs (λ a b. R (f a) (f b)) xs → AllPairs R (map f xs)
+pub AllPairs-map : {X Y : Type 0} (R : Y → Y → Type 0) (f : X → Y) (xs : List X) → AllPairs (λ a b. R (f a) (f b)) xs → AllPairs R (map f xs)
 AllPairs-map R f [] h i j d before within = absurd (omega arith)
 AllPairs-map {X} {Y} R f (x ∷ xs) h i j d before within =
     let size = length-map (x ∷ xs) f in
@@ -26,12 +26,12 @@ AllPairs-map {X} {Y} R f (x ∷ xs) h i j d before within =
     subst (λ (a : Y). R a (get_or (map f (x ∷ xs)) j d)) (sym at_i)
     (subst (λ (b : Y). R (f (get_or (x ∷ xs) i x)) b) (sym at_j) (h i j x before (omega (arith, size))))
 
--- f and then g change nothing in a list where they change no element
-same_map : {X : Type 0} (f : X → X) (xs : List X) → ((x : X) → Contains xs x → f x ≡ x) → map f xs ≡ xs
+-- what changes no element of a list changes nothing
+pub same_map : {X : Type 0} (f : X → X) (xs : List X) → ((x : X) → Contains xs x → f x ≡ x) → map f xs ≡ xs
 same_map f [] h = refl
 same_map f (x ∷ xs) h = λ i. h x (Contains-first x xs) i ∷ same_map f xs (λ y c. h y (Contains-more x xs y c)) i
 
-map-map : {X Y Z : Type 0} (g : Y → Z) (f : X → Y) (xs : List X) → map g (map f xs) ≡ map (λ x. g (f x)) xs
+pub map-map : {X Y Z : Type 0} (g : Y → Z) (f : X → Y) (xs : List X) → map g (map f xs) ≡ map (λ x. g (f x)) xs
 map-map g f [] = refl
 map-map {X} {Y} {Z} g f (x ∷ xs) = ap (λ (l : List Z). g (f x) ∷ l) (map-map g f xs)
 
