@@ -1,0 +1,9 @@
+pub mod Slotted
+pub mod Pairing
+pub mod Words
+pub mod Sizes
+pub mod Rules
+pub mod Written
+pub mod Framed
+pub mod ReadAgain
+pub mod Decided
