@@ -13,6 +13,7 @@ use Rattle.store_core.proofs.Founds.{said_first}
 use Rattle.store_core.proofs.Lookings.{by_first, found_said, named_first, named_next, no_entry, nothing_said, older_true, read_first, read_later, read_true, said_next, says_of_number, true_later, unkept_first, unkept_next, unkept_same, unread_both}
 use Rattle.store_core.proofs.ReadBounds.{next_bound, searched_first}
 use Rattle.store_core.proofs.ShownBlocks.{first_fault, older_fault}
+use Rattle.table_file.specs.Faults.{IsNoDamage}
 use Rattle.table_file.specs.Search.{block_for}
 use Rattle.table_file.specs.Opened.{Opened}
 use Rattle.store_core.proofs.getting.+look_in_all.Goals as goal
@@ -36,6 +37,12 @@ pub returns-in_err-here-clause-only_if_read : goal.returns-in_err-here-clause-on
 returns-in_err-here-clause-only_if_read g t c states tells held are =
     let most = searched_first c.standing_tables_are_read.ensures.keys g.F.RangeFilter.spelling c.in-Some.table.now c.in-Some.older.now _ c.args.key.now c.args.tables.now states c.in-Some.ensures.cases.0 held in
     let here : 1 ≤ searched c.args.key.now states = omega (arith, c.in_err-here.ensures.only_if_read, most) in
+    search rules
+
+pub returns-in_err-here-clause-undamaged : goal.returns-in_err-here-clause-undamaged
+returns-in_err-here-clause-undamaged g t c states tells held =
+    let here = by_first g.F.RangeFilter.spelling c.in-Some.table.now c.in-Some.older.now (g.D.Disk.world c.args.disk.now).seen.held (λ ts us. IsNoDamage c.in_err-here.field-0.0)
+    (λ one older h rest. c.in_err-here.ensures.undamaged h.blocks tells h.stands) c.args.tables.now states c.in-Some.ensures.cases.0 held in
     search rules
 
 pub returns-in_err-here-clause-shown : goal.returns-in_err-here-clause-shown

@@ -56,6 +56,11 @@ returns-then-has-clause-moves g c = reads_none _ _
 pub read_in-requires-clause-named : goal.read_in-requires-clause-named
 read_in-requires-clause-named g c = sym c.block_for.ensures ∙ c.in-Some.is
 
+pub returns-in_err-size-clause-undamaged : goal.returns-in_err-size-clause-undamaged
+returns-in_err-size-clause-undamaged g c parts tells s =
+    let here = c.in_err-size.ensures.undamaged parts tells s in
+    search rules
+
 pub returns-in_err-size-clause-same : goal.returns-in_err-size-clause-same
 returns-in_err-size-clause-same g c = subst (AreSame c.args.blocks.now) (sym c.has.ensures.brought) (brought_same (c.args.number, c.in-Some.block) c.args.blocks.now)
 
