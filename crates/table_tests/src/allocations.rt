@@ -1,8 +1,6 @@
 //! A table whose allocations fail in turn. One is made to fail from outside, by its number, and then the call that wanted
 //! it leaves all as it was and succeeds when it is made again. Where none fails, each call succeeds at once.
-use crate::made::{
-    BASE, FIRST_PAGE, Made, Walk, add, new_disk, opened, room, row_at, try_add,
-};
+use crate::made::{BASE, FIRST_PAGE, Made, Walk, add, new_disk, opened, room, row_at, try_add};
 use byte_fields::Row;
 use disk_mem::MemDisk;
 use plain_filter::PlainFilter;
