@@ -44,7 +44,7 @@ pub record RunContract {X : Type 0} (world : X → World) (tells tells_input tel
       (s : State) → IsTrue tells → IsTrue tells_input → IsTrue tells_output → Now (IsStateOf kind.spelling s) (world old) → IsServe words
       → ServedOrNot kind status s (world old) (world new)
   -- Of the map alone: at each moment each image that a crash may leave has a map that these replies reach after some first
-  -- lines with all that was acknowledged by then, or after one more.
+  -- lines with all that was acknowledged by then, or after one more, which is not said to be refused.
   pub one_map_crash :
       (s : State) → IsTrue tells → IsTrue tells_input → IsTrue tells_output → Now (IsStateOf kind.spelling s) (world old) → IsServe words
       → OneMapLasts kind.spelling (state_map s) (world old) (world new) ⊎ NoLineAnswered status s (world old) (world new)
