@@ -15,12 +15,18 @@ returns-in-Ok-clause-ends g c start base first tells input output same served =
 pub returns-in-Ok-clause-early : goal.returns-in-Ok-clause-early
 returns-in-Ok-clause-early g c seven = absurd (never_seven c.serve.result c.serve.ensures.statuses seven)
 
+pub returns-in-Ok-clause-statuses : goal.returns-in-Ok-clause-statuses
+returns-in-Ok-clause-statuses g c = elim c.serve.ensures.statuses [ inl serving ↦ inl serving | inr five ↦ inr (inl five) ]
+
 pub returns-in-Err-clause-ends : goal.returns-in-Err-clause-ends
 returns-in-Err-clause-ends g c start base first tells input output same served =
     inr (
       unserved IsFreeText (g.W.Disk.world c.args.out.now) (g.W.Disk.world c.last_line.new.out) (g.met.W.Outside.said_now c.args.out.now) c.last_line.ensures.moves c.last_line.result 7 (text_of Memory) (inr (refl, refl)) (c.last_line.ensures.prefix output) (c.last_line.ensures.said output tt) c.last_line.ensures.ends,
       said_reads (g.W.Disk.world c.args.out.now) (g.W.Disk.world c.last_line.new.out) c.last_line.ensures.moves,
     )
+
+pub returns-in-Err-clause-statuses : goal.returns-in-Err-clause-statuses
+returns-in-Err-clause-statuses g c = elim c.last_line.ensures.ends [ inl seven ↦ inr (inr seven) | inr six ↦ inl (inr (inr (inr (inl six.0)))) ]
 
 pub returns-in-Err-clause-early : goal.returns-in-Err-clause-early
 returns-in-Err-clause-early g c seven = c.last_line.ensures.moves.to_take
