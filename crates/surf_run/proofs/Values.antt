@@ -7,6 +7,7 @@ use Rattle.entry_model.proofs.Newest.{lookup_newest}
 use Rattle.entry_model.specs.Entries.{Entry, IsEntry, bytes_of, live, newest}
 use Rattle.entry_model.specs.Newest.{lookup}
 use Rattle.map_model.specs.SortedMap.{Bytes, get}
+use Rattle.state_model.proofs.SoundLogs.{logged_entries}
 use Rattle.state_model.proofs.Views.{view_says}
 use Rattle.state_model.specs.Sound.{IsSound, IsSoundTable}
 use Rattle.state_model.specs.State.{State}
@@ -50,5 +51,5 @@ live_some (Some said) value is = ap Some (sym is)
 pub value_short : (filter_bytes : FilterBytes) (s : State) (key value : Bytes) → IsSound filter_bytes s → Some value ≡ get (state_map s) key → length value ≤ 1048576
 value_short filter_bytes s key value sound is =
     or_short (lookup (memory s) key) (first_found (map (λ (t : Table). t.entries) s.tables) key) value (length value ≤ 1048576)
-    (λ here. newest_short s.log key value sound.log (sym (lookup_newest s.log key) ∙ here)) (first_short s.tables key value sound.tables)
+    (λ here. newest_short s.log key value (logged_entries s.log sound.log) (sym (lookup_newest s.log key) ∙ here)) (first_short s.tables key value sound.tables)
     (live_some (view s key) value (is ∙ view_says filter_bytes s key sound))
