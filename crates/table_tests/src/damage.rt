@@ -295,7 +295,7 @@ fn each_rule_of_a_block_at_its_byte(rt: HostRuntime) -> Result<(), Fail> {
         row.index_sum = change_block(&mut disk, place, &[byte])?;
         assert_eq!(rt;
             get_a(alloc, &mut disk, &row)?,
-            (shape(Part::Block, BLOCK + at, rule), 1)
+            (shape(Part::Block, BLOCK.saturating_add(at), rule), 1)
         );
     }
     Ok(())

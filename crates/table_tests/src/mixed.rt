@@ -36,6 +36,9 @@ fn old_block(alloc: Global) -> Result<Vec<u8>, Fail> {
 // Writes it over the first of two blocks, keeps its sum in the index behind them, and answers the sum of that.
 fn write_old_block(alloc: Global, disk: &mut MemDisk) -> Result<u64, Fail> {
     let block = old_block(alloc)?;
+    if block.len() != 4_096 {
+        return Err(Fail::from("not a page"));
+    }
     let mut index = [0; 44];
     let done = disk.write(786_432, &block).is_ok() && disk.read(794_624, &mut index).is_ok();
     index[16..24].copy_from_slice(&fnv1a(&block).to_le_bytes());
