@@ -10,6 +10,8 @@ mod choices;
 #[cfg(test)]
 mod compactions;
 #[cfg(test)]
+mod long_values;
+#[cfg(test)]
 mod made;
 #[cfg(test)]
 mod merging;

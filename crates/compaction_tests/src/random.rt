@@ -31,11 +31,11 @@ const KEYS: [&[u8]; 16] = [
     b"\xff\xff",
 ];
 
-// Bytes that values are cut from.
-fn long_text(alloc: Global) -> Result<Vec<u8>, AllocError> {
+/// So many bytes that values are cut from.
+pub fn text_of(alloc: Global, length: usize) -> Result<Vec<u8>, AllocError> {
     let mut numbers = Numbers::new(1);
-    let mut bytes = Vec::with_capacity(alloc, 65_536)?;
-    for _ in 0..65_536u32 {
+    let mut bytes = Vec::with_capacity(alloc, length)?;
+    for _ in 0..length {
         bytes.push(u8::try_from(numbers.draw_below(256)).unwrap_or(0))?;
     }
     Ok(bytes)
@@ -273,14 +273,14 @@ fn to_read(alloc: Global, state: &State) -> Result<Option<u64>, AllocError> {
     Ok(Some(blocks))
 }
 
-// The played state behind a merge slice of the store: where fewer blocks are left than it may read, it goes on to the
+// The played state behind a merge slice of the store: where no more blocks are left than it may read, it goes on to the
 // install.
 fn behind_slice(alloc: Global, blocks: u64, state: Box<State>) -> Result<Box<State>, AllocError> {
     let Some(left) = to_read(alloc, &state)? else {
         return Ok(state);
     };
     let mut state = sliced_once(alloc, blocks, &state)?;
-    if left >= blocks {
+    if left > blocks {
         return Ok(state);
     }
     for _ in 0..9 {
@@ -318,12 +318,12 @@ fn has_map(alloc: Global, disk: &mut MemDisk, state: &State) -> Result<bool, Fai
     Ok(true)
 }
 
-// How a script goes over a store and in a played state: the first line with another reply, their number where another
-// map is found in the end, and how many lines and merge slices of the store are refused.
+/// How a script goes over a store and in a played state: the first line with another reply, their number where another
+/// map is found in the end, and how many lines and merge slices of the store are refused.
 #[derive(Clone, Copy, Debug, PartialEq, Eq)]
-struct Compared {
-    other: Option<usize>,
-    refused: usize,
+pub struct Compared {
+    pub other: Option<usize>,
+    pub refused: usize,
 }
 
 fn is_refused(reply: &Reply) -> bool {
@@ -416,9 +416,9 @@ pub fn store_behind(
     Ok((store, disk))
 }
 
-// A script over a store of so many pages, with merge slices of so many blocks, and as it is played in merge slices of
-// others. With numbers to draw from, settings and pages change between its lines.
-fn side_by_side(
+/// A script over a store of so many pages, with merge slices of so many blocks, and as it is played in merge slices of
+/// others. With numbers to draw from, settings and pages change between its lines.
+pub fn side_by_side(
     alloc: Global,
     script: &[Request<'_>],
     mut changes: Option<Numbers>,
@@ -457,7 +457,7 @@ fn side_by_side(
 #[test]
 fn a_store_in_slices_replies_as_it_is_played_in_them(rt: HostRuntime) -> Result<(), Fail> {
     let alloc = rt.alloc();
-    let text = long_text(alloc)?;
+    let text = text_of(alloc, 65_536)?;
     let rows = [
         (1, 512, 1, 60_000),
         (2, 512, 8, 60_000),
@@ -477,7 +477,7 @@ fn a_store_in_slices_replies_as_it_is_played_in_them(rt: HostRuntime) -> Result<
 #[test]
 fn a_store_whose_numbers_change_replies_as_it_is_played(rt: HostRuntime) -> Result<(), Fail> {
     let alloc = rt.alloc();
-    let text = long_text(alloc)?;
+    let text = text_of(alloc, 65_536)?;
     for (seed, blocks, longest) in [(8, 1, 20_000), (9, 8, 60_000), (10, 1_000, 20_000)] {
         let script = drawn(alloc, seed, Lines::All, 150, &text, longest)?;
         let changes = Some(Numbers::new(seed));
@@ -492,7 +492,7 @@ fn a_store_whose_numbers_change_replies_as_it_is_played(rt: HostRuntime) -> Resu
 #[test]
 fn replies_are_the_same_in_all_slices(rt: HostRuntime) -> Result<(), Fail> {
     let alloc = rt.alloc();
-    let text = long_text(alloc)?;
+    let text = text_of(alloc, 65_536)?;
     for seed in 5..7 {
         let script = drawn(alloc, seed, Lines::OfTheMap, 300, &text, 20_000)?;
         for blocks in [1, 2, 8, 1_000] {

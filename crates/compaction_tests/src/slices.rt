@@ -110,11 +110,11 @@ fn slices_of(alloc: Global, blocks: u64, state: &State) -> Result<usize, AllocEr
 }
 
 #[test]
-fn four_blocks_and_one_output_take_six_slices_at_most(rt: HostRuntime) -> Result<(), Fail> {
+fn four_blocks_and_one_output_take_five_slices_at_most(rt: HostRuntime) -> Result<(), Fail> {
     let alloc = rt.alloc();
     let four = four_tables(alloc)?;
-    assert_eq!(rt; slices_of(alloc, 1, &four.state)?, 6);
-    assert_eq!(rt; slices_of(alloc, 3, &four.state)?, 4);
-    assert_eq!(rt; slices_of(alloc, 9, &four.state)?, 3);
+    assert_eq!(rt; slices_of(alloc, 1, &four.state)?, 5);
+    assert_eq!(rt; slices_of(alloc, 3, &four.state)?, 3);
+    assert_eq!(rt; slices_of(alloc, 9, &four.state)?, 2);
     Ok(())
 }

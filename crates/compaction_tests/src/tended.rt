@@ -15,6 +15,18 @@ pub const FOUR: [Change<'static>; 8] = [
     Change::Flush,
 ];
 
+/// Four tables of level 0, of a tombstone each.
+pub const FOUR_TOMBSTONES: [Change<'static>; 8] = [
+    Change::Del(b"a"),
+    Change::Flush,
+    Change::Del(b"b"),
+    Change::Flush,
+    Change::Del(b"c"),
+    Change::Flush,
+    Change::Del(b"d"),
+    Change::Flush,
+];
+
 /// Merge slices of so many blocks each, until nothing is to be merged: how many worked, and how many blocks one of them
 /// read at most.
 pub fn tended(

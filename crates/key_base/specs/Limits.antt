@@ -13,17 +13,17 @@ is_no_key_length bytes = bytes == 0 || nat_lt max_key_bytes bytes
 abbrev pub max_bound_bytes : ℕ
 max_bound_bytes = 1024
 
--- the bytes of the longest value that a block takes; the shortest has none
+-- the bytes of the longest value; the shortest has none
 abbrev pub max_value_bytes : ℕ
 max_value_bytes = 1048576
 
--- the bytes of the longest value that the log takes, and a block of the first format; the shortest has none
+-- the bytes of the longest value that the log takes, and a block of the first format: a longer one goes into a table at once
 abbrev pub max_logged_value_bytes : ℕ
 max_logged_value_bytes = 65536
 
 -- the bytes of the longest line, without its newline
 abbrev pub max_line_bytes : ℕ
-max_line_bytes = 140000
+max_line_bytes = 2100000
 
 -- the bytes of input that one run takes at most
 abbrev pub max_input_bytes : ℕ
@@ -71,17 +71,14 @@ max_block_entries = 255
 abbrev pub restart_entries : ℕ
 restart_entries = 16
 
--- the bytes of an entry before its key and its value: its kind and their lengths
+-- the bytes of an entry before its key and its value, in the log and in a block of the first format: its kind and their lengths.
+-- In the second format it has two more, of what its key shares with the one before.
 abbrev pub entry_head_bytes : ℕ
 entry_head_bytes = 7
 
 -- the pages of the largest block: one entry, of the longest key and of the longest value
 abbrev pub max_block_pages : ℕ
 max_block_pages = 257
-
--- the pages of the largest block of the first format, whose value is as long as the longest of the log
-abbrev pub max_old_block_pages : ℕ
-max_old_block_pages = 17
 
 -- the last number of an epoch
 unfoldable pub last_epoch : ℕ

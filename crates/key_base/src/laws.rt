@@ -1,14 +1,14 @@
 //! Laws of the limits and of shared prefixes; the functions do nothing.
 ghost use Rattle.std.specs.Prelude.{◌≡◌, ◌*◌, ◌+◌};
 ghost use Rattle.key_base.specs.Prefixes.{CloserDecides, RestsDecide, SharedAndRest, RestComparesAsKey};
-ghost use Rattle.key_base.specs.Limits.{max_key_bytes, max_bound_bytes, max_value_bytes, max_logged_value_bytes, max_line_bytes, max_input_bytes, piece_bytes, max_range_pairs, page_bytes, min_device_pages, max_device_pages, log_pages, log_bytes, slot_bytes, first_table_page, max_block_entries, max_block_pages, max_old_block_pages, restart_entries, entry_head_bytes, last_epoch, max_tables, max_level, merge_data_pages, max_hash_bits, max_real_bits, max_ratio};
+ghost use Rattle.key_base.specs.Limits.{max_key_bytes, max_bound_bytes, max_value_bytes, max_logged_value_bytes, max_line_bytes, max_input_bytes, piece_bytes, max_range_pairs, page_bytes, min_device_pages, max_device_pages, log_pages, log_bytes, slot_bytes, first_table_page, max_block_entries, max_block_pages, restart_entries, entry_head_bytes, last_epoch, max_tables, max_level, merge_data_pages, max_hash_bits, max_real_bits, max_ratio};
 
 use crate::limits::{
     ENTRY_HEAD_BYTES, FIRST_TABLE_PAGE, LAST_EPOCH, LOG_BYTES, LOG_PAGES, MAX_BLOCK_ENTRIES,
     MAX_BLOCK_PAGES, MAX_BOUND_BYTES, MAX_DEVICE_PAGES, MAX_HASH_BITS, MAX_INPUT_BYTES,
-    MAX_KEY_BYTES, MAX_LEVEL, MAX_LINE_BYTES, MAX_LOGGED_VALUE_BYTES, MAX_OLD_BLOCK_PAGES,
-    MAX_RANGE_PAIRS, MAX_RATIO, MAX_REAL_BITS, MAX_TABLES, MAX_VALUE_BYTES, MERGE_DATA_PAGES,
-    MIN_DEVICE_PAGES, PAGE_BYTES, PIECE_BYTES, RESTART_ENTRIES, SLOT_BYTES,
+    MAX_KEY_BYTES, MAX_LEVEL, MAX_LINE_BYTES, MAX_LOGGED_VALUE_BYTES, MAX_RANGE_PAIRS, MAX_RATIO,
+    MAX_REAL_BITS, MAX_TABLES, MAX_VALUE_BYTES, MERGE_DATA_PAGES, MIN_DEVICE_PAGES, PAGE_BYTES,
+    PIECE_BYTES, RESTART_ENTRIES, SLOT_BYTES,
 };
 
 /// Law: each constant for code is the limit of that name.
@@ -32,7 +32,6 @@ pub fn constants_are_limits()
     ensures max_block_entries { MAX_BLOCK_ENTRIES ≡ max_block_entries }
     ensures entry_head_bytes { ENTRY_HEAD_BYTES ≡ entry_head_bytes }
     ensures max_block_pages { MAX_BLOCK_PAGES ≡ max_block_pages }
-    ensures max_old_block_pages { MAX_OLD_BLOCK_PAGES ≡ max_old_block_pages }
     ensures restart_entries { RESTART_ENTRIES ≡ restart_entries }
     ensures last_epoch { LAST_EPOCH ≡ last_epoch }
     ensures max_tables { MAX_TABLES ≡ max_tables }

@@ -8,14 +8,15 @@ pub const MAX_KEY_BYTES: usize = 1_024;
 /// The bytes of the longest bound of a range; the shortest has none.
 pub const MAX_BOUND_BYTES: usize = 1_024;
 
-/// The bytes of the longest value that a block takes; the shortest has none.
+/// The bytes of the longest value; the shortest has none.
 pub const MAX_VALUE_BYTES: usize = 1_048_576;
 
-/// The bytes of the longest value that the log takes, and a block of the first format; the shortest has none.
+/// The bytes of the longest value that the log takes, and a block of the first format: a longer one goes into a table at
+/// once.
 pub const MAX_LOGGED_VALUE_BYTES: usize = 65_536;
 
 /// The bytes of the longest line, without its newline.
-pub const MAX_LINE_BYTES: usize = 140_000;
+pub const MAX_LINE_BYTES: usize = 2_100_000;
 
 /// The bytes of input that one run takes at most: 2^40.
 pub const MAX_INPUT_BYTES: u64 = 1_099_511_627_776;
@@ -54,14 +55,12 @@ pub const MAX_BLOCK_ENTRIES: usize = 255;
 /// each sixteenth after it.
 pub const RESTART_ENTRIES: usize = 16;
 
-/// The bytes of an entry before its key and its value: its kind and their lengths.
+/// The bytes of an entry before its key and its value, in the log and in a block of the first format: its kind and their
+/// lengths. In the second format it has two more, of what its key shares with the one before.
 pub const ENTRY_HEAD_BYTES: usize = 7;
 
 /// The pages of the largest block: one entry, of the longest key and of the longest value.
 pub const MAX_BLOCK_PAGES: u32 = 257;
-
-/// The pages of the largest block of the first format, whose value is as long as the longest of the log.
-pub const MAX_OLD_BLOCK_PAGES: u32 = 17;
 
 /// The last number of an epoch: 2^64 - 1.
 pub const LAST_EPOCH: u64 = 18_446_744_073_709_551_615;

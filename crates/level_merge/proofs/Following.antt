@@ -1,5 +1,5 @@
 -- A merge that follows a job goes on as what it makes goes on.
-use Rattle.std.proofs.Common.{◌≡◌, inl, inr, ℕ, ◌≤◌, ◌<◌, List, [], ◌∷◌, ◌++◌, length, map, take, drop, refl, sym, ap, ap₂, ◌∙◌, subst, arith, append_assoc}
+use Rattle.std.proofs.Common.{◌≡◌, ◌≢◌, inl, inr, ℕ, ◌≤◌, ◌<◌, List, [], ◌∷◌, ◌++◌, length, map, take, drop, refl, sym, ap, ap₂, ◌∙◌, subst, arith, append_assoc}
 use Rattle.std.specs.Prelude.{Some, None, Ok, Err, Result, IsOk}
 use Rattle.std.specs.List.Sorted.{IsPermutation}
 use Rattle.std.proofs.lemmas.List.{append-nil, drop-drop, length_push, map-append}
@@ -15,7 +15,7 @@ use Rattle.filter_api.specs.Spellings.{Spelling}
 use Rattle.filter_api.specs.declared.settings.Settings.{Settings}
 use Rattle.level_merge.specs.Follows.{AreTaken, Follows, FollowsAnyJob, IsJobRefusal, IsSliced, JobProgress, ProgressOrRefusal}
 use Rattle.level_merge.specs.TablesAgree.{TablesAgree}
-use Rattle.level_merge.specs.Making.{AnswersProgress, AreTakenBy, FirstOutput, HasPlace, IsMakeRefusal, MakesAnyOutputs, OneOutput, OutputsLeft, SliceOf, merge_extents}
+use Rattle.level_merge.specs.Making.{AnswersProgress, AreTakenBy, FirstOutput, GoesOn, HasPlace, IsMakeRefusal, IsMoreLeft, MakesAnyOutputs, OneOutput, OutputsLeft, merge_extents}
 use Rattle.level_merge.specs.JobValue.{JobValue}
 use Rattle.level_merge.specs.Plans.{numbered}
 use Rattle.level_merge.specs.Outputs.{extent_at}
@@ -28,7 +28,7 @@ use Rattle.state_model.specs.Merges.{NoRoom, placed, planned}
 use Rattle.state_model.specs.Sound.{plan_of_job}
 use Rattle.state_model.specs.State.{Job, State}
 use Rattle.state_model.specs.Taken.{extent_of, taken}
-use Rattle.state_model.specs.Tends.{Progresses, next_placed, outstanding, with_job}
+use Rattle.state_model.specs.Tends.{IsDone, Progresses, next_placed, outstanding, with_job}
 use Rattle.table_file.specs.Opened.{Opened}
 use Rattle.table_model.specs.Tables.{FilterBytes, Table, table_of, table_pages}
 
@@ -143,7 +143,7 @@ module _ (spelling : Spelling) (filter_bytes : FilterBytes) (s : State) (job : J
 
   -- ---- the job goes on
 
-  module _ (said : Sliced) (on : SliceOf spelling filter_bytes opened s.tables old new (outstanding s.tables job) job.written (map extent_of s.kept) free extents before after said) where
+  module _ (on : GoesOn spelling filter_bytes opened s.tables old new (outstanding s.tables job) job.written (map extent_of s.kept) free extents before after) where
     abbrev next : Job
     next = record { inputs = job.inputs; output = job.output; to_read = blocks_left opened new.merge.walks; written = on.now }
 
@@ -183,13 +183,23 @@ module _ (spelling : Spelling) (filter_bytes : FilterBytes) (s : State) (job : J
       makes = subst (λ outputs. OutputsLeft spelling opened after.seen.held new outputs on.now) (left_is on.one) on.makes;
     }
 
+    less_is_other : blocks_left opened new.merge.walks < blocks_left opened old.merge.walks → next ≢ job
+    less_is_other less same = let all : blocks_left opened new.merge.walks ≡ job.to_read = ap (λ (j : Job). j.to_read) same in let read = follows.to_read in absurd (omega (arith, all, read, less))
+
+    more_is_other : length job.written < length on.now → next ≢ job
+    more_is_other more same = let all : length on.now ≡ length job.written = ap (λ (j : Job). length j.written) same in absurd (omega (arith, all, more))
+
+    not_done : IsMoreLeft opened new on.later → IsDone s.tables next → ⊥
+    not_done (inl some) is = let none : blocks_left opened new.merge.walks ≡ 0 = is.all_read in absurd (omega (arith, some, none))
+    not_done (inr some) is = some (left_is on.one ∙ is.all_written)
+
     other_job : (said : Sliced) → AnswersProgress opened old new on.later job.written on.now said → IsSliced s job next said
-    other_job sliced.Working (inl less) = λ same. let all : blocks_left opened new.merge.walks ≡ job.to_read = ap (λ (j : Job). j.to_read) same in let read = follows.to_read in absurd (omega (arith, all, read, less))
-    other_job sliced.Working (inr more) = λ same. let all : length on.now ≡ length job.written = ap (λ (j : Job). length j.written) same in absurd (omega (arith, all, more))
+    other_job sliced.Working (inl less, more) = (less_is_other less, not_done more)
+    other_job sliced.Working (inr longer, more) = (more_is_other longer, not_done more)
     other_job sliced.Ready is = record { all_read = is.0; all_written = sym (left_is on.one) ∙ is.1 }
 
-    done : JobProgress spelling filter_bytes s job opened old new extents before after said
-    done = record {
+    done : (said : Sliced) → AnswersProgress opened old new on.later job.written on.now said → JobProgress spelling filter_bytes s job opened old new extents before after said
+    done said is = record {
       later = next;
       progresses = goes_on on.one;
       follows = next_follows;
@@ -199,7 +209,7 @@ module _ (spelling : Spelling) (filter_bytes : FilterBytes) (s : State) (job : J
         pages = pages_are on.one;
         taken_are = subst (λ (es : List Extent). IsPermutation extents.extents es) (sym (taken_with spelling s next opened new.made after.seen.held on.held on.makes.made_are)) on.taken_are;
       };
-      said = other_job said on.said;
+      said = other_job said is;
     }
 
 -- what it makes of a state's job
@@ -214,5 +224,5 @@ makes_follow spelling filter_bytes opened old new free extents result before aft
     by_result : (result : Result Sliced JobFault)
         → Rattle.level_merge.specs.Making.OutputOrNone spelling filter_bytes opened s.tables old new (outstanding s.tables job) job.written (map extent_of s.kept) free extents result before after
         → ProgressOrRefusal spelling filter_bytes s job opened old new extents result before after
-    by_result (Ok said) on = done spelling filter_bytes s job opened old new free extents before after follows taken_are said on
+    by_result (Ok said) on = done spelling filter_bytes s job opened old new free extents before after follows taken_are on.goes said on.said
     by_result (Err why) is = refused spelling filter_bytes s job opened old new free extents before after follows taken_are why is

@@ -35,6 +35,19 @@ ends_some : (built : List Entry) (e : Entry) → outputs_of zero (built ++ e ∷
 ends_some [] e = refl
 ends_some (x ∷ built) e = refl
 
+-- an output that has an entry is still to make
+one_of_two : (full : Bool) (a b : List Entry) (xs ys : List (List Entry)) → cond full (a ∷ xs) (b ∷ ys) ≡ [] → ⊥
+one_of_two true a b xs ys none = absurd cc
+one_of_two false a b xs ys none = absurd cc
+
+pub built_is_left : (beside : ℕ) (built later : List Entry) → 0 < length built → outputs_with beside built later ≡ [] → ⊥
+built_is_left beside [] later some none = absurd (omega (arith, some))
+built_is_left zero (e ∷ built) later some none = absurd cc
+built_is_left (suc beside) (e ∷ built) [] some none = absurd cc
+built_is_left (suc beside) (e ∷ built) (f ∷ later) some none =
+    let split = split_output (e ∷ built) (f ∷ later) in
+    one_of_two (nat_le merge_data_pages (data_pages (e ∷ built))) (e ∷ built) split.0 (outputs_of beside (f ∷ later)) (outputs_of beside split.1) none
+
 -- ---- where nothing is built
 
 pub none_built : (beside : ℕ) (later : List Entry) → outputs_with beside [] later ≡ outputs_of beside later

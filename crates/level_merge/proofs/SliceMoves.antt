@@ -5,7 +5,7 @@ use Rattle.std.proofs.lemmas.List.{length_push, map-append}
 use Rattle.block_model.specs.Pages.{page_bytes}
 use Rattle.block_model.specs.Places.{byte_of_page, pages_of}
 use Rattle.byte_fields.specs.declared.parts.Row.{Row}
-use Rattle.disk_trait.specs.World.{Rose, World, WriteMoves}
+use Rattle.disk_trait.specs.World.{ReadMoves, Rose, World, WriteMoves}
 use Rattle.disk_trait.proofs.Calls.{moves_joined, moves_of_read, moves_of_write, reads_then}
 use Rattle.entry_model.specs.Entries.{Entry}
 use Rattle.extent_map.specs.Taken.{Taken}
@@ -51,6 +51,28 @@ module _ (spelling : Spelling) (built_cutoff : ℕ → List Leaf → ℕ) (old m
       let at = byte_of_page one.0.first_page in
       let n = page_bytes * pages_of one.0 in
       inr (one.0, reads.0 + 0, adds one.0 one.1, moves_joined at n reads.0 0 before here after (moves_of_read at n reads.0 before here reads.1) (moves_of_write at n 0 here after one.2))
+
+-- reads behind them
+pub moves_then : (spelling : Spelling) (built_cutoff : ℕ → List Leaf → ℕ) (old new last : JobValue) (free extents : Taken) (before after end : World) → last.outputs ≡ new.outputs → ReadMoves 0 after end
+    → SliceMoves spelling built_cutoff old new free extents before after → SliceMoves spelling built_cutoff old last free extents before end
+moves_then spelling built_cutoff old new last free extents before after end same still (inl none) =
+    inl (same ∙ none.0, none.1, (none.2.0 + 0, reads_then none.2.0 0 before after end none.2.1 still))
+moves_then spelling built_cutoff old new last free extents before after end same still (inr one) =
+    let at = byte_of_page one.0.first_page in
+    let n = page_bytes * pages_of one.0 in
+    inr (
+      one.0,
+      one.1 + 0,
+      record {
+        outputs = same ∙ one.2.outputs;
+        row_of = one.2.row_of;
+        on_device = one.2.on_device;
+        apart = one.2.apart;
+        extents = one.2.extents;
+        pages = one.2.pages;
+      },
+      moves_joined at n one.1 0 before after end one.3 (moves_of_read at n 0 after end still),
+    )
 
 -- where an output is closed, its pages were written
 pub closed_moves : (spelling : Spelling) (built_cutoff : ℕ → List Leaf → ℕ) (mid new : JobValue) (free extents : Taken) (row : Row) (here after : World)

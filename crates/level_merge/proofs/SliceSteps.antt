@@ -11,7 +11,7 @@ use Rattle.block_model.specs.Pages.{page_bytes}
 use Rattle.block_model.specs.Places.{byte_of_page, pages_of}
 use Rattle.byte_fields.specs.declared.parts.Row.{Row}
 use Rattle.disk_trait.specs.Image.{Image, Torn}
-use Rattle.disk_trait.specs.World.{Now, Rose, World, WriteMoves}
+use Rattle.disk_trait.specs.World.{Now, ReadMoves, Rose, World, WriteMoves}
 use Rattle.disk_trait.proofs.Calls.{leads_around, reads_keep}
 use Rattle.entry_model.specs.Entries.{Entry}
 use Rattle.extent_map.specs.Taken.{Taken}
@@ -21,9 +21,9 @@ use Rattle.filter_api.specs.Spellings.{Spelling}
 use Rattle.filter_api.specs.declared.settings.Settings.{Settings}
 use Rattle.filter_model.specs.Leaves.{Leaf}
 use Rattle.level_merge.specs.TablesAgree.{TableAgrees, TablesAgree}
-use Rattle.level_merge.specs.Making.{AnswersProgress, AreTakenBy, IsMakeRefusal, OutputsLeft, SliceOf, merge_extents}
+use Rattle.level_merge.specs.Making.{AnswersProgress, AreTakenBy, GoesOn, IsMakeRefusal, OutputsLeft, SliceOf, merge_extents}
 use Rattle.level_merge.specs.JobValue.{AreAllWritten, JobValue, is_full, outputs_left, outputs_with}
-use Rattle.level_merge.specs.SliceSteps.{Closes, IsTakeFault, TakesRows, made_opened, made_table, need_of}
+use Rattle.level_merge.specs.SliceSteps.{Closes, IsTakeFault, LooksOn, TakesRows, made_opened, made_table, need_of}
 use Rattle.level_merge.specs.Outputs.{IsCloseFault, extent_at}
 use Rattle.level_merge.specs.declared.fault.JobFault.{JobFault}
 use Rattle.level_merge.specs.declared.fault.JobFault.TheVariants as fault
@@ -31,7 +31,7 @@ use Rattle.level_merge.specs.declared.fault.Sliced.{Sliced}
 use Rattle.level_merge.specs.declared.fault.Sliced.TheVariants as sliced
 use Rattle.level_merge.proofs.AllRead.{no_row_no_block}
 use Rattle.level_merge.proofs.OtherImages.{outputs_same, sound_same}
-use Rattle.level_merge.proofs.OutputLists.{full_output, no_row, none_built}
+use Rattle.level_merge.proofs.OutputLists.{built_is_left, full_output, no_row, none_built}
 use Rattle.merge_rows.specs.Merges.{Merge, merged_left, rows_left}
 use Rattle.merge_rows.specs.Reads.{OnlyReads, SomeBlock, blocks_left}
 use Rattle.merge_rows.specs.Rows.{rows_shown}
@@ -139,6 +139,10 @@ none_of (suc beside) = refl
 pub no_length : (built : List Entry) → (length built == 0) ≡ true → length built ≡ 0
 no_length built empty = eqb-true (length built) 0 empty
 
+pub none_of_length : (built : List Entry) → length built ≡ 0 → built ≡ []
+none_of_length [] none = refl
+none_of_length (e ∷ built) none = absurd (omega (arith, none))
+
 pub some_length : (built : List Entry) → (length built == 0) ≡ false → 0 < length built
 some_length [] some = absurd (false≢true (sym some))
 some_length (e ∷ built) some = omega arith
@@ -180,23 +184,25 @@ module _ (standing : StandingBlocks) (spelling : Spelling) (built_cutoff : ℕ �
   -- blocks alone were read
   pub waits : (said : Sliced) → AnswersProgress opened old mid left made made said → SliceOf spelling filter_bytes opened tables old mid left made others free free before here said
   waits said says = record {
-    later = left;
-    now = made;
-    one = inl (refl, refl, refl);
-    read = takes.fewer;
-    numbers_are = takes.sources.numbers_are;
-    stands_are = takes.sources.stands_are;
-    settings = settings_are;
-    output = ap (λ (m : JobValue). m.output) takes.rest;
-    makes = subst (λ (h : Image). OutputsLeft spelling opened h mid left made) (sym reads.1.held) (record {
-      sound = sound;
-      left_are = left_is;
-      rows = written;
-      made_are = subst (λ (m : JobValue). TablesAgree spelling m.made made before.seen.held) (sym takes.rest) makes.made_are;
-    });
-    held = subst (TablesAgree spelling opened tables) (sym reads.1.held) held;
-    lasting = λ now. subst (λ (m : List Opened). Now (TablesAgree spelling m made) here) (sym made_is) (reads_keep (TablesAgree spelling old.made made) reads.0 before here reads.1 now);
-    taken_are = subst (λ (m : List Opened). AreTakenBy opened m others free) (sym made_is) taken;
+    goes = record {
+      later = left;
+      now = made;
+      one = inl (refl, refl, refl);
+      read = takes.fewer;
+      numbers_are = takes.sources.numbers_are;
+      stands_are = takes.sources.stands_are;
+      settings = settings_are;
+      output = ap (λ (m : JobValue). m.output) takes.rest;
+      makes = subst (λ (h : Image). OutputsLeft spelling opened h mid left made) (sym reads.1.held) (record {
+        sound = sound;
+        left_are = left_is;
+        rows = written;
+        made_are = subst (λ (m : JobValue). TablesAgree spelling m.made made before.seen.held) (sym takes.rest) makes.made_are;
+      });
+      held = subst (TablesAgree spelling opened tables) (sym reads.1.held) held;
+      lasting = λ now. subst (λ (m : List Opened). Now (TablesAgree spelling m made) here) (sym made_is) (reads_keep (TablesAgree spelling old.made made) reads.0 before here reads.1 now);
+      taken_are = subst (λ (m : List Opened). AreTakenBy opened m others free) (sym made_is) taken;
+    };
     said = says;
   }
 
@@ -327,9 +333,8 @@ module _ (standing : StandingBlocks) (spelling : Spelling) (built_cutoff : ℕ �
       walks_are : new.merge ≡ mid.merge
       walks_are = ap (λ (m : JobValue). m.merge) closes.new_is
 
-      pub makes_one : (said : Sliced) → AnswersProgress opened old new later made (made ++ new_table ∷ []) said
-          → SliceOf spelling filter_bytes opened tables old new left made others free extents before after said
-      makes_one said says = record {
+      pub makes_one : GoesOn spelling filter_bytes opened tables old new left made others free extents before after
+      makes_one = record {
         later = later;
         now = made ++ new_table ∷ [];
         one = inr (record {
@@ -360,14 +365,72 @@ module _ (standing : StandingBlocks) (spelling : Spelling) (built_cutoff : ℕ �
             (subst (λ (l : List Extent). IsPermutation extents.extents (map (λ (t : Opened). extent_at t.row) opened ++ (l ++ others)))
             (sym (map-append (λ (t : Opened). extent_at t.row) old.made (new_opened ∷ [])))
             (one_taken (extent_at row) (map (λ (t : Opened). extent_at t.row) opened) (map (λ (t : Opened). extent_at t.row) old.made) others free.extents extents.extents taken closes.placed.taken_is));
-        said = says;
       }
 
-      pub works : SliceOf spelling filter_bytes opened tables old new left made others free extents before after sliced.Working
-      works = makes_one sliced.Working (inr (let more = length_push made new_table in omega (arith, more)))
+      -- one more is made than before
+      pub one_more : length made < length makes_one.now
+      unfolding makes_one
+      one_more = let more = length_push made new_table in omega (arith, more)
 
       pub ends : blocks_left opened mid.merge.walks ≡ 0 → later ≡ [] → SliceOf spelling filter_bytes opened tables old new left made others free extents before after sliced.Ready
-      ends read none = makes_one sliced.Ready (ap (λ (m : Merge). blocks_left opened m.walks) walks_are ∙ read, none)
+      unfolding makes_one
+      ends read none = record { goes = makes_one; said = (ap (λ (m : Merge). blocks_left opened m.walks) walks_are ∙ read, none) }
+
+-- ---- rows were taken behind an output that was closed
+
+module _ (spelling : Spelling) (filter_bytes : FilterBytes) (opened : List Opened) (tables : List Table) (old mid new : JobValue) (left : List (List Entry)) (made : List Table)
+    (others : List Extent) (free taken : Taken) (before here after : World) (tells : Bool) (is : IsTrue tells)
+    (on : GoesOn spelling filter_bytes opened tables old mid left made others free taken before here) (longer : length made < length on.now)
+    (takes : TakesRows tells opened here.seen.held mid new) (still : ReadMoves 0 here after) where
+  still_made : new.made ≡ mid.made
+  still_made = ap (λ (m : JobValue). m.made) takes.rest
+
+  still_sound : IsSoundMerge new.merge opened here.seen.held
+  still_sound = takes.sources.sound is on.makes.sound
+
+  still_left : outputs_left new opened here.seen.held ≡ on.later
+  still_left = takes.left is on.makes.sound ∙ on.makes.left_are
+
+  goes_then : GoesOn spelling filter_bytes opened tables old new left made others free taken before after
+  goes_then = record {
+    later = on.later;
+    now = on.now;
+    one = on.one;
+    read = let more = takes.fewer in let fewer = on.read in omega (arith, more, fewer);
+    numbers_are = takes.sources.numbers_are ∙ on.numbers_are;
+    stands_are = takes.sources.stands_are ∙ on.stands_are;
+    settings = ap (λ (m : JobValue). m.settings) takes.rest ∙ on.settings;
+    output = ap (λ (m : JobValue). m.output) takes.rest ∙ on.output;
+    makes = subst (λ (h : Image). OutputsLeft spelling opened h new on.later on.now) (sym still.held) (record {
+      sound = still_sound;
+      left_are = still_left;
+      rows = ap (λ (m : JobValue). m.outputs) takes.rest ∙ on.makes.rows ∙ sym (ap (λ (m : JobValue). map (λ (t : Opened). t.row) m.made) takes.rest);
+      made_are = subst (λ (m : List Opened). TablesAgree spelling m on.now here.seen.held) (sym still_made) on.makes.made_are;
+    });
+    held = subst (TablesAgree spelling opened tables) (sym still.held) on.held;
+    lasting = λ now. subst (λ (m : List Opened). Now (TablesAgree spelling m on.now) after) (sym still_made) (reads_keep (TablesAgree spelling mid.made on.now) 0 here after still (on.lasting now));
+    taken_are = subst (λ (m : List Opened). AreTakenBy opened m others taken) (sym still_made) on.taken_are;
+  }
+
+  -- what was found behind it is what is left
+  pub looked_on : mid.merge.drops ≡ false → (said : Sliced) → LooksOn tells opened here.seen.held mid new said
+      → SliceOf spelling filter_bytes opened tables old new left made others free taken before after said
+  unfolding goes_then
+  looked_on whole sliced.Working (inl some) = record { goes = goes_then; said = (inr longer, inl some) }
+  looked_on whole sliced.Working (inr some) = record {
+    goes = goes_then;
+    said = (inr longer, inr (λ none. built_is_left new.beside new.built (lasting new.drops (rows_left new.merge opened here.seen.held)) some (still_left ∙ none)));
+  }
+  looked_on whole sliced.Ready none =
+      let no_rows = none.1 is on.makes.sound in
+      record {
+        goes = goes_then;
+        said = (
+          no_row_no_block new.merge opened here.seen.held still_sound
+              (ap (λ (d : Bool). rows_shown d (merged_left new.merge opened here.seen.held)) (sym (takes.sources.drops_are ∙ whole)) ∙ no_rows),
+          sym still_left ∙ ap (outputs_with new.beside new.built) (ap (lasting new.drops) no_rows ∙ none_lasts new.drops) ∙ no_row new.beside new.built ∙ ap (outputs_of zero) none.0,
+        );
+      }
 
 -- ---- rows could not be taken
 

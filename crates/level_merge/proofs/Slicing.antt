@@ -1,5 +1,5 @@
 -- A slice, whole: rows were taken, and an output was closed behind them or was not.
-use Rattle.std.proofs.Common.{◌≡◌, ◌*◌, ◌∙◌, ℕ, ◌+◌, ◌<◌, ◌≤◌, Bool, true, IsTrue, List, length, Ok, Err, ap, subst, sym}
+use Rattle.std.proofs.Common.{◌≡◌, ◌*◌, ◌∙◌, inl, ℕ, ◌+◌, ◌<◌, ◌≤◌, Bool, true, IsTrue, List, [], length, Ok, Err, ap, subst, sym, arith}
 use Rattle.disk_trait.specs.World.{ReadMoves, World}
 use Rattle.entry_model.specs.Entries.{Entry}
 use Rattle.extent_map.specs.Taken.{Taken}
@@ -10,13 +10,13 @@ use Rattle.byte_fields.specs.declared.parts.Row.{Row}
 use Rattle.level_merge.specs.Making.{MakesAnyOutputs}
 use Rattle.level_merge.specs.JobValue.{JobValue, is_full}
 use Rattle.level_merge.specs.Outputs.{IsCloseFault}
-use Rattle.level_merge.specs.SliceSteps.{Closes, FailsBeforeWrite, HasNoRoom, IsTakeFault, WritesOutput, need_of}
+use Rattle.level_merge.specs.SliceSteps.{Closes, FailsBeforeWrite, HasNoRoom, IsTakeFault, MayMakeAsMany, SaysWhatIsLeft, SliceMoves, WritesOutput, need_of}
 use Rattle.level_merge.specs.SliceContract.{SliceContract}
 use Rattle.level_merge.specs.declared.fault.JobFault.{JobFault}
 use Rattle.level_merge.specs.declared.fault.JobFault.TheVariants as fault
 use Rattle.level_merge.specs.declared.fault.Sliced.{Sliced}
 use Rattle.level_merge.specs.declared.fault.Sliced.TheVariants as sliced
-use Rattle.level_merge.proofs.SliceMoves.{closing_ends, fault_of_close, fault_of_take, reads_end, slice_reads, slice_writes, still_bounded, within_last, within_none, within_one, within_same, written_one, written_same}
+use Rattle.level_merge.proofs.SliceMoves.{closing_ends, fault_of_close, fault_of_take, moves_then, reads_end, slice_reads, slice_writes, still_bounded, within_last, within_none, within_one, within_same, written_one, written_same}
 use Rattle.merge_rows.specs.Merges.{Merge}
 use Rattle.merge_rows.specs.Reads.{OnlyReads, blocks_left}
 use Rattle.merge_rows.specs.Steps.{IsSoundMerge, numbers, stands}
@@ -76,13 +76,15 @@ module _ (spelling : Spelling) (built_cutoff : ℕ → List Leaf → ℕ) (tells
   -- ---- nothing was written
 
   pub waited : blocks_left opened mid.merge.walks ≤ blocks_left opened old.merge.walks → blocks_left opened mid.merge.walks < blocks_left opened old.merge.walks
+      → 1 ≤ blocks_left opened mid.merge.walks
       → (IsTrue tells → MakesAnyOutputs spelling (filter_bytes_of spelling built_cutoff) opened old mid free free (Ok sliced.Working) before here)
       → SliceContract spelling built_cutoff tells blocks opened old mid free free (Ok sliced.Working) before here
-  waited fewer less makes = record {
+  waited fewer less some makes = record {
     makes = makes;
     bounded = λ t sound. (bounded t sound).reads;
     twice = twice.reads;
     ends = λ _. reads_end opened old mid mid rest fewer less;
+    more = inl some;
     level = level_of mid.output same_output;
     same = (same_output, same_settings);
     numbers_are = walks;
@@ -95,14 +97,15 @@ module _ (spelling : Spelling) (built_cutoff : ℕ → List Leaf → ℕ) (tells
     no_room = tt;
   }
 
-  pub had_nothing : blocks_left opened mid.merge.walks ≤ blocks_left opened old.merge.walks
+  pub had_nothing : blocks_left opened mid.merge.walks ≤ blocks_left opened old.merge.walks → mid.built ≡ []
       → (IsTrue tells → MakesAnyOutputs spelling (filter_bytes_of spelling built_cutoff) opened old mid free free (Ok sliced.Ready) before here)
       → SliceContract spelling built_cutoff tells blocks opened old mid free free (Ok sliced.Ready) before here
-  had_nothing fewer makes = record {
+  had_nothing fewer empty makes = record {
     makes = makes;
     bounded = λ t sound. (bounded t sound).reads;
     twice = twice.reads;
     ends = λ is. absurd (ready_is_none is);
+    more = empty;
     level = level_of mid.output same_output;
     same = (same_output, same_settings);
     numbers_are = walks;
@@ -123,6 +126,7 @@ module _ (spelling : Spelling) (built_cutoff : ℕ → List Leaf → ℕ) (tells
     bounded = λ t sound. (bounded t sound).reads;
     twice = twice.reads;
     ends = tt;
+    more = tt;
     level = level_of mid.output same_output;
     same = (same_output, same_settings);
     numbers_are = walks;
@@ -148,25 +152,76 @@ module _ (spelling : Spelling) (built_cutoff : ℕ → List Leaf → ℕ) (tells
     twice_on : after.seen.reads ≤ before.seen.reads + 2 * blocks
     twice_on = still_bounded spelling built_cutoff mid new free extents here after (before.seen.reads + 2 * blocks) twice.reads writes
 
-    pub closed_one : (row : Row) → Closes spelling built_cutoff mid new free extents row → blocks_left opened mid.merge.walks ≤ blocks_left opened old.merge.walks → is_full mid.beside mid.built ≡ true
-        → (IsTrue tells → MakesAnyOutputs spelling (filter_bytes_of spelling built_cutoff) opened old new free extents (Ok sliced.Working) before after)
-        → SliceContract spelling built_cutoff tells blocks opened old new free extents (Ok sliced.Working) before after
-    closed_one row closes fewer full makes = record {
-      makes = makes;
-      bounded = bounded_on;
-      twice = twice_on;
-      ends = λ _. closing_ends opened old mid new rest fewer spelling built_cutoff free extents row closes full;
-      level = level_of new.output (same.0 ∙ same_output);
-      same = (same.0 ∙ same_output, same.1 ∙ same_settings);
-      numbers_are = walks_on;
-      stands_are = ap (λ (m : Merge). stands m.walks) merge ∙ stood;
-      few = within_one opened old mid new rest fewer spelling built_cutoff free extents row closes full;
-      rows = written_one opened old mid new rest fewer spelling built_cutoff free extents row closes;
-      moves = slice_writes spelling built_cutoff old mid new free extents before here after rest reads writes;
-      fault = tt;
-      unwritten = tt;
-      no_room = tt;
-    }
+    -- behind it rows were taken that want no block
+    module _ (last : JobValue) (end : World) (rest_on : last ≡ record new { merge = last.merge; built = last.built }) (walks_last : numbers last.merge.walks ≡ numbers new.merge.walks)
+        (stood_last : stands last.merge.walks ≡ stands new.merge.walks) (still : ReadMoves 0 after end) where
+      bounded_last : IsTrue tells → IsSoundMerge old.merge opened before.seen.held → end.seen.reads ≤ before.seen.reads + blocks
+      bounded_last t sound = let most = bounded_on t sound in let none = still.reads in omega (arith, most, none)
+
+      twice_last : end.seen.reads ≤ before.seen.reads + 2 * blocks
+      twice_last = let none = still.reads in omega (arith, twice_on, none)
+
+      level_last : (1 ≤ last.output) × (last.output ≤ 6)
+      level_last = level_of last.output (ap (λ (m : JobValue). m.output) rest_on ∙ same.0 ∙ same_output)
+
+      same_last : (last.output ≡ old.output) × (last.settings ≡ old.settings)
+      same_last = (ap (λ (m : JobValue). m.output) rest_on ∙ same.0 ∙ same_output, ap (λ (m : JobValue). m.settings) rest_on ∙ same.1 ∙ same_settings)
+
+      stands_last : stands last.merge.walks ≡ stands old.merge.walks
+      stands_last = stood_last ∙ ap (λ (m : Merge). stands m.walks) merge ∙ stood
+
+      moves_last : SliceMoves spelling built_cutoff old last free extents before end
+      moves_last = moves_then spelling built_cutoff old new last free extents before after end (ap (λ (m : JobValue). m.outputs) rest_on) still
+          (slice_writes spelling built_cutoff old mid new free extents before here after rest reads writes)
+
+      pub closed_then : (row : Row) → Closes spelling built_cutoff mid new free extents row → blocks_left opened mid.merge.walks ≤ blocks_left opened old.merge.walks → is_full mid.beside mid.built ≡ true
+          → blocks_left opened last.merge.walks ≤ blocks_left opened new.merge.walks → (said : Sliced) → SaysWhatIsLeft opened last said
+          → (IsTrue tells → MakesAnyOutputs spelling (filter_bytes_of spelling built_cutoff) opened old last free extents (Ok said) before end)
+          → SliceContract spelling built_cutoff tells blocks opened old last free extents (Ok said) before end
+      closed_then row closes fewer full fewer_on said left makes = record {
+        makes = makes;
+        bounded = bounded_last;
+        twice = twice_last;
+        ends = λ _.
+            let less = closing_ends opened old mid new rest fewer spelling built_cutoff free extents row closes full in
+            let beside = ap (λ (m : JobValue). m.beside) rest_on in
+            omega (arith, less, beside, fewer_on);
+        more = left;
+        level = level_last;
+        same = same_last;
+        numbers_are = walks_last ∙ walks_on;
+        stands_are = stands_last;
+        few = as_many said (ap (λ (m : JobValue). length m.outputs + m.beside) rest_on ∙ within_one opened old mid new rest fewer spelling built_cutoff free extents row closes full);
+        rows = λ all. written_same opened new last last rest_on fewer_on (written_one opened old mid new rest fewer spelling built_cutoff free extents row closes all);
+        moves = moves_last;
+        fault = tt;
+        unwritten = tt;
+        no_room = tt;
+      }
+        where
+          as_many : (said : Sliced) → length last.outputs + last.beside ≡ length old.outputs + old.beside → MayMakeAsMany old last said
+          as_many sliced.Working is = is
+          as_many sliced.Ready is = omega (arith, is)
+
+      pub closed_without_memory : (why : JobFault) → why ≡ fault.Memory
+          → SliceContract spelling built_cutoff tells blocks opened old last free extents (Err why) before end
+      closed_without_memory why is = subst (λ (f : JobFault). SliceContract spelling built_cutoff tells blocks opened old last free extents (Err f) before end) (sym is) (record {
+        makes = λ t tables left made others held makes taken. tt;
+        bounded = bounded_last;
+        twice = twice_last;
+        ends = tt;
+        more = tt;
+        level = level_last;
+        same = same_last;
+        numbers_are = walks_last ∙ walks_on;
+        stands_are = stands_last;
+        few = tt;
+        rows = λ _. tt;
+        moves = moves_last;
+        fault = tt;
+        unwritten = tt;
+        no_room = tt;
+      })
 
     pub closed_last : (row : Row) → Closes spelling built_cutoff mid new free extents row → blocks_left opened mid.merge.walks ≤ blocks_left opened old.merge.walks
         → (IsTrue tells → MakesAnyOutputs spelling (filter_bytes_of spelling built_cutoff) opened old new free extents (Ok sliced.Ready) before after)
@@ -176,6 +231,7 @@ module _ (spelling : Spelling) (built_cutoff : ℕ → List Leaf → ℕ) (tells
       bounded = bounded_on;
       twice = twice_on;
       ends = λ is. absurd (ready_is_none is);
+      more = ap (λ (m : JobValue). m.built) closes.new_is;
       level = level_of new.output (same.0 ∙ same_output);
       same = (same.0 ∙ same_output, same.1 ∙ same_settings);
       numbers_are = walks_on;
@@ -196,6 +252,7 @@ module _ (spelling : Spelling) (built_cutoff : ℕ → List Leaf → ℕ) (tells
       bounded = bounded_on;
       twice = twice_on;
       ends = tt;
+      more = tt;
       level = level_of new.output (same.0 ∙ same_output);
       same = (same.0 ∙ same_output, same.1 ∙ same_settings);
       numbers_are = walks_on;

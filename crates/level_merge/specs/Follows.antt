@@ -36,9 +36,9 @@ pub record AreTaken (s : State) (job : Job) (extents : Taken) : Type 0 where
   pub pages : extents.pages ≡ s.pages
   pub taken_are : IsPermutation extents.extents (taken (with_job s job))
 
--- something was done, or nothing is left
+-- something was done and more is left, or nothing is left
 abbrev pub IsSliced : State → Job → Job → Sliced → Type 0
-IsSliced s job later sliced.Working = later ≢ job
+IsSliced s job later sliced.Working = (later ≢ job) × (IsDone s.tables later → ⊥)
 IsSliced s job later sliced.Ready = IsDone s.tables later
 
 -- Want of memory; a read that failed, where a block is to read; a write or a sync that failed, where an output may be written; or an

@@ -54,16 +54,20 @@ pub record FirstOutput (filter_bytes : FilterBytes) (m : JobValue) (free taken :
 abbrev pub OneOutput : FilterBytes → JobValue → Taken → Taken → List (List Entry) → List (List Entry) → List Table → List Table → Type 0
 OneOutput filter_bytes m free taken left later made now = ((later ≡ left) × (now ≡ made) × (taken ≡ free)) ⊎ FirstOutput filter_bytes m free taken left later made now
 
--- blocks were read or an output was made; or nothing is left, neither to read nor to make
+-- a block to read or an output to make is left
+abbrev pub IsMoreLeft : List Opened → JobValue → List (List Entry) → Type 0
+IsMoreLeft opened m later = (1 ≤ blocks_left opened m.merge.walks) ⊎ (later ≢ [])
+
+-- blocks were read or an output was made, and more is left; or nothing is left, neither to read nor to make
 abbrev pub AnswersProgress : List Opened → JobValue → JobValue → List (List Entry) → List Table → List Table → Sliced → Type 0
-AnswersProgress opened old new later made now sliced.Working = (blocks_left opened new.merge.walks < blocks_left opened old.merge.walks) ⊎ (length made < length now)
+AnswersProgress opened old new later made now sliced.Working =
+    ((blocks_left opened new.merge.walks < blocks_left opened old.merge.walks) ⊎ (length made < length now)) × IsMoreLeft opened new later
 AnswersProgress opened old new later made now sliced.Ready = (blocks_left opened new.merge.walks ≡ 0) × (later ≡ [])
 
--- A merge slice that is done: no more blocks are left than before, one output was made or none, the tables that are read and those
--- that are made stand on the device as it is then, and those that are made on each image that a crash may leave where they did
--- before.
-pub record SliceOf (spelling : Spelling) (filter_bytes : FilterBytes) (opened : List Opened) (tables : List Table) (old new : JobValue) (left : List (List Entry)) (made : List Table)
-    (others : List Extent) (free taken : Taken) (before after : World) (sliced : Sliced) : Type 0 where
+-- A merge went on: no more blocks are left than before, one output was made or none, the tables that are read and those that are
+-- made stand on the device as it is then, and those that are made on each image that a crash may leave where they did before.
+pub record GoesOn (spelling : Spelling) (filter_bytes : FilterBytes) (opened : List Opened) (tables : List Table) (old new : JobValue) (left : List (List Entry)) (made : List Table)
+    (others : List Extent) (free taken : Taken) (before after : World) : Type 0 where
   pub later : List (List Entry)
   pub now : List Table
   pub one : OneOutput filter_bytes old free taken left later made now
@@ -76,7 +80,12 @@ pub record SliceOf (spelling : Spelling) (filter_bytes : FilterBytes) (opened : 
   pub held : TablesAgree spelling opened tables after.seen.held
   pub lasting : Now (TablesAgree spelling old.made made) before → Now (TablesAgree spelling new.made now) after
   pub taken_are : AreTakenBy opened new.made others taken
-  pub said : AnswersProgress opened old new later made now sliced
+
+-- A merge slice that is done: the merge went on, and it is said whether more is left.
+pub record SliceOf (spelling : Spelling) (filter_bytes : FilterBytes) (opened : List Opened) (tables : List Table) (old new : JobValue) (left : List (List Entry)) (made : List Table)
+    (others : List Extent) (free taken : Taken) (before after : World) (sliced : Sliced) : Type 0 where
+  pub goes : GoesOn spelling filter_bytes opened tables old new left made others free taken before after
+  pub said : AnswersProgress opened old new goes.later made goes.now sliced
 
 -- Want of memory; a read that failed, where a block is to read; a write or a sync that failed, where an output has its place; or the
 -- first of the outputs has none.

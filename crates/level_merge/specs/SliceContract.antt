@@ -7,7 +7,7 @@ use Rattle.filter_api.specs.Spellings.{Spelling}
 use Rattle.filter_model.specs.Leaves.{Leaf}
 use Rattle.level_merge.specs.Making.{MakesAnyOutputs}
 use Rattle.level_merge.specs.JobValue.{AreAllWritten, JobValue, work_left}
-use Rattle.level_merge.specs.SliceSteps.{FailsBeforeWrite, HasNoRoom, IsSliceFault, MayMakeAsMany, SliceMoves}
+use Rattle.level_merge.specs.SliceSteps.{FailsBeforeWrite, HasNoRoom, IsSliceFault, MayMakeAsMany, SaysWhatIsLeft, SliceMoves}
 use Rattle.level_merge.specs.declared.fault.JobFault.{JobFault}
 use Rattle.level_merge.specs.declared.fault.Sliced.{Sliced}
 use Rattle.level_merge.specs.declared.fault.Sliced.TheVariants.{Working}
@@ -25,6 +25,8 @@ pub record SliceContract (spelling : Spelling) (built_cutoff : ℕ → List Leaf
   pub twice : after.seen.reads ≤ before.seen.reads + 2 * blocks
   -- where something is left, it is less than before
   pub ends : IfOk result (λ sliced. sliced ≡ Working → work_left opened new < work_left opened old)
+  -- and where it is said that something is left, something is
+  pub more : IfOk result (SaysWhatIsLeft opened new)
   pub level : (1 ≤ new.output) × (new.output ≤ max_level)
   pub same : (new.output ≡ old.output) × (new.settings ≡ old.settings)
   pub numbers_are : numbers new.merge.walks ≡ numbers old.merge.walks

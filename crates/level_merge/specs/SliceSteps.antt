@@ -1,5 +1,5 @@
 -- What a merge slice does of its merge.
-use Rattle.std.specs.Prelude.{◌≡◌, ◌≢◌, ◌⊎◌, ◌<◌, ◌≤◌, ◌+◌, ◌-◌, ◌*◌, ℕ, Bool, true, List, [], ◌∷◌, ◌++◌, length, IsTrue}
+use Rattle.std.specs.Prelude.{◌≡◌, ◌≢◌, ◌⊎◌, ◌<◌, ◌≤◌, ◌+◌, ◌-◌, ◌*◌, ℕ, Bool, true, List, [], ◌∷◌, ◌++◌, length, Option, Some, None, IsTrue}
 use Rattle.std.specs.List.{AllByRecursion}
 use Rattle.std.specs.List.Sorted.{IsPermutation}
 use Rattle.block_model.specs.Block.{IsTable}
@@ -44,9 +44,14 @@ pub record KeepsRows (tells : Bool) (tables : List Opened) (image : Image) (old 
   pub floor_is : new.floor ≡ old.floor
   pub left : IsTrue tells → merged_left new tables image ≡ merged_left old tables image
 
--- Why rows were taken no further: some blocks were read, the output is full, or no row is left.
+-- how many blocks may still be read, where the next row wants none
+abbrev pub left_of : Option ℕ → ℕ
+left_of None = 0
+left_of (Some left) = left
+
+-- Why rows were taken no further: some blocks were read, and more are left; the output is full; or no row is left.
 abbrev pub IsStop : Bool → ℕ → List Opened → Image → ℕ → Merge → Merge → List Entry → Stop → Type 0
-IsStop tells blocks tables image beside old new built stop.Blocks = 0 < blocks → blocks_left tables new.walks < blocks_left tables old.walks
+IsStop tells blocks tables image beside old new built stop.Blocks = (0 < blocks → blocks_left tables new.walks < blocks_left tables old.walks) × (1 ≤ blocks_left tables new.walks)
 IsStop tells blocks tables image beside old new built stop.Full = is_full beside built ≡ true
 IsStop tells blocks tables image beside old new built stop.End = IsTrue tells → IsSoundMerge old tables image → rows_left new tables image ≡ []
 
@@ -128,6 +133,16 @@ SliceMoves spelling built_cutoff old new free taken before after =
 abbrev pub MayMakeAsMany : JobValue → JobValue → Sliced → Type 0
 MayMakeAsMany old new sliced.Working = length new.outputs + new.beside ≡ length old.outputs + old.beside
 MayMakeAsMany old new sliced.Ready = length new.outputs ≤ length old.outputs + old.beside + 1
+
+-- On any device: where it works, a block is left to read, or an output with an entry is built; what is ready has none.
+abbrev pub SaysWhatIsLeft : List Opened → JobValue → Sliced → Type 0
+SaysWhatIsLeft opened m sliced.Working = (1 ≤ blocks_left opened m.merge.walks) ⊎ (0 < length m.built)
+SaysWhatIsLeft opened m sliced.Ready = m.built ≡ []
+
+-- What is left behind an output that was written: so, and where nothing is left to write, no row is.
+abbrev pub LooksOn : Bool → List Opened → Image → JobValue → JobValue → Sliced → Type 0
+LooksOn tells opened image old new sliced.Working = SaysWhatIsLeft opened new sliced.Working
+LooksOn tells opened image old new sliced.Ready = (new.built ≡ []) × (IsTrue tells → IsSoundMerge old.merge opened image → rows_left new.merge opened image ≡ [])
 
 -- a fault of the reads or of the writes
 abbrev pub IsSliceFault : Bool → List Opened → List ℕ → World → World → JobFault → Type 0

@@ -12,7 +12,7 @@ use table_file::TableFault;
 /// How far a merge is after a merge slice.
 #[derive(Clone, Copy, Debug, PartialEq, Eq)]
 pub enum Sliced {
-    /// Something is left to read or to write.
+    /// A block was read or an output was written, and something is left to read or to write.
     Working,
     /// Nothing is left: its tables may be installed.
     Ready,

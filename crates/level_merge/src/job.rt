@@ -1,5 +1,5 @@
 //! A merge that runs.
-ghost use Rattle.std.specs.Prelude.{◌≡◌, ◌≢◌, ◌==◌, ◌<◌, ◌≤◌, ◌-◌, ◌*◌, ◌++◌, length, IsTrue, IfOk, IfErr, IfSome, OnOk, [], ◌∷◌};
+ghost use Rattle.std.specs.Prelude.{false, ◌≡◌, ◌≢◌, ◌==◌, ◌<◌, ◌≤◌, ◌-◌, ◌*◌, ◌++◌, length, IsTrue, IfOk, IfErr, IfSome, OnOk, [], ◌∷◌};
 ghost use Rattle.std.specs.List.{AllByRecursion, list_any};
 ghost use Rattle.std.specs.Option.{option_map};
 ghost use Rattle.disk_trait.specs.World.{Now, ReadMoves};
@@ -9,7 +9,7 @@ ghost use Rattle.level_merge.specs.Follows.{FollowsAnyJob};
 ghost use Rattle.level_merge.specs.TablesAgree.{TableAgrees};
 ghost use Rattle.level_merge.specs.JobValue.{begun, compaction, merge_of};
 ghost use Rattle.level_merge.specs.Plans.{MayStart};
-ghost use Rattle.level_merge.specs.SliceSteps.{Closes, IsStop, IsTakeFault, TakesRows, WritesOutput, made_opened, made_table, need_of};
+ghost use Rattle.level_merge.specs.SliceSteps.{Closes, IsStop, IsTakeFault, LooksOn, TakesRows, WritesOutput, made_opened, made_table, need_of};
 ghost use Rattle.level_merge.specs.SliceContract.{SliceContract};
 ghost use Rattle.level_merge.specs.Outputs.{IsCloseFault, last_row};
 ghost use Rattle.key_base.specs.Limits.{max_level, max_tables};
@@ -146,8 +146,9 @@ impl<'m, F: RangeFilter> Job<'m, F> {
         })
     }
 
-    /// Goes on with the merge: reads at most so many blocks, one or more, and writes an output where one is full, or where no
-    /// row is left. `Ready` where then nothing is left.
+    /// Goes on with the merge: reads at most so many blocks, one or more, and on a device whose tables do not stand at most
+    /// twice as many; and writes an output where one is full, or where no row is left. `Ready` exactly where then nothing is
+    /// left: rows that want no block are taken on.
     pub fn slice<D: Disk>(
         &mut self,
         disk: &mut D,
@@ -209,7 +210,10 @@ impl<'m, F: RangeFilter> Job<'m, F> {
         match self.take_rows(disk, tables, blocks) {
             Ok(Stop::Blocks) => Ok(Sliced::Working),
             Ok(Stop::Full) => match self.close(disk, extents, MERGE_DATA_PAGES) {
-                Ok(()) => Ok(Sliced::Working),
+                Ok(()) => match self.look_on(disk, tables) {
+                    Ok(said) => Ok(said),
+                    Err(why) => Err(why),
+                },
                 Err(why) => Err(why),
             },
             Ok(Stop::End) => {
@@ -225,7 +229,33 @@ impl<'m, F: RangeFilter> Job<'m, F> {
         }
     }
 
-    // Adds rows to the output that is built, until it is full, no row is left, or as many blocks were read as may be.
+    // Behind an output that was written: adds rows to the next one while they want no block, and answers whether more is left. No
+    // read.
+    fn look_on<D: Disk>(&mut self, disk: &mut D, tables: &Tables<F>) -> Result<Sliced, JobFault>
+        requires there { AreWalksIn tables.now.tables (stands self.old.merge.walks) }
+        ensures numbers { numbers self.new.merge.walks ≡ numbers self.old.merge.walks }
+        ensures stands { stands self.new.merge.walks ≡ stands self.old.merge.walks }
+        ensures rest { self.new ≡ record self.old { merge = self.new.merge; built = self.new.built } }
+        ensures taken { OnOk result (TakesRows D.tells tables.now.tables (D.world disk.old).seen.held self.old self.new) }
+        ensures said { IfOk result (LooksOn D.tells tables.now.tables (D.world disk.old).seen.held self.old self.new) }
+        ensures memory { IfErr result (λ why. why ≡ Memory) }
+        ensures moves { ReadMoves 0 (D.world disk.old) (D.world disk.new) }
+    {
+        match self.take_rows(disk, tables, 0) {
+            Ok(Stop::Blocks) => Ok(Sliced::Working),
+            Ok(Stop::Full) => Ok(Sliced::Working),
+            Ok(Stop::End) => {
+                if !self.built.is_empty() {
+                    return Ok(Sliced::Working);
+                }
+                Ok(Sliced::Ready)
+            }
+            Err(why) => Err(why),
+        }
+    }
+
+    // Adds rows to the output that is built, until it is full, no row is left, or the next one wants a block and as many were
+    // read as may be.
     fn take_rows<D: Disk>(
         &mut self,
         disk: &mut D,
@@ -234,12 +264,14 @@ impl<'m, F: RangeFilter> Job<'m, F> {
     ) -> Result<Stop, JobFault>
         requires there { AreWalksIn tables.now.tables (stands self.old.merge.walks) }
         ensures level { (1 ≤ self.old.output) × (self.old.output ≤ max_level) }
+        ensures whole { self.old.merge.drops ≡ false }
         ensures numbers { numbers self.new.merge.walks ≡ numbers self.old.merge.walks }
         ensures stands { stands self.new.merge.walks ≡ stands self.old.merge.walks }
         ensures rest { self.new ≡ record self.old { merge = self.new.merge; built = self.new.built } }
         ensures taken { OnOk result (TakesRows D.tells tables.now.tables (D.world disk.old).seen.held self.old self.new) }
         ensures stop { IfOk result (IsStop D.tells blocks tables.now.tables (D.world disk.old).seen.held self.old.beside self.old.merge self.new.merge self.new.built) }
         ensures fault { IfErr result (IsTakeFault D.tells tables.now.tables (numbers self.old.merge.walks) (D.world disk.old) (D.world disk.new)) }
+        ensures unread { blocks ≡ 0 → IfErr result (λ why. why ≡ Memory) }
         ensures met { IsTrue D.tells → IsSoundMerge self.old.merge tables.now.tables (D.world disk.old).seen.held → IfErr result (λ why. why ≢ Memory → 1 ≤ blocks_left tables.now.tables self.old.merge.walks) }
         ensures moves { OnlyReads (D.world disk.old) (D.world disk.new) }
         ensures twice { ReadMoves (2 * blocks) (D.world disk.old) (D.world disk.new) }

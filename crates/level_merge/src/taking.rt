@@ -1,10 +1,10 @@
 //! Rows that are taken from a merge into an output.
-ghost use Rattle.std.specs.Prelude.{◌≡◌, ◌≢◌, ◌<◌, ◌≤◌, ◌-◌, ◌*◌, ◌++◌, false, length, IsTrue, IfOk, IfErr, IfSome, OnOk, OnErr, [], ◌∷◌};
+ghost use Rattle.std.specs.Prelude.{◌≡◌, ◌≢◌, ◌<◌, ◌≤◌, ◌-◌, ◌*◌, ◌++◌, true, false, length, None, is_some, IsTrue, IfOk, IfErr, IfSome, OnOk, OnErr, [], ◌∷◌};
 ghost use Rattle.block_model.specs.Order.{Follow, is_any};
 ghost use Rattle.disk_trait.specs.World.{ReadMoves};
 ghost use Rattle.entry_model.specs.Entries.{IsEntry, keys_of};
 ghost use Rattle.level_merge.specs.JobValue.{IsBuilding, at_hand, is_full};
-ghost use Rattle.level_merge.specs.SliceSteps.{FillsOutput, IsStop, IsTakeFault, KeepsRows};
+ghost use Rattle.level_merge.specs.SliceSteps.{FillsOutput, IsStop, IsTakeFault, KeepsRows, left_of};
 ghost use Rattle.level_merge.specs.declared.fault.JobFault.TheVariants.{Memory};
 ghost use Rattle.merge_rows.specs.Reads.{OnlyReads, blocks_left, wanted};
 ghost use Rattle.merge_rows.specs.Steps.{AreCaughtUp, AreHeadsClear, AreWalksIn, IsSoundMerge, SourcesStay, numbers, stands};
@@ -20,7 +20,7 @@ use table_file::{TableBuilder, Tables};
 
 /// Why rows were taken no further.
 pub(crate) enum Stop {
-    /// As many blocks were read as may be.
+    /// The next row wants a block, and as many were read as may be.
     Blocks,
     /// The output that is built is full.
     Full,
@@ -28,8 +28,8 @@ pub(crate) enum Stop {
     End,
 }
 
-/// Adds rows to the output that is built, until it is full, no row is left, or as many blocks were read as may be. Tombstones
-/// are left out where they are dropped; so many outputs may come beside the one that is built.
+/// Adds rows to the output that is built, until it is full, no row is left, or the next one wants a block and as many were read
+/// as may be. Tombstones are left out where they are dropped; so many outputs may come beside the one that is built.
 pub(crate) fn take_rows<'m, F: RangeFilter, D: Disk>(
     rows: &mut MergeRows<'m>,
     built: &mut TableBuilder,
@@ -48,6 +48,7 @@ pub(crate) fn take_rows<'m, F: RangeFilter, D: Disk>(
     ensures taken { OnOk result (FillsOutput D.tells tables.now.tables (D.world disk.old).seen.held beside drops rows.old rows.new built.old.entries built.new.entries) }
     ensures stop { IfOk result (IsStop D.tells blocks tables.now.tables (D.world disk.old).seen.held beside rows.old rows.new built.new.entries) }
     ensures fault { IfErr result (IsTakeFault D.tells tables.now.tables (numbers rows.old.walks) (D.world disk.old) (D.world disk.new)) }
+    ensures unread { blocks ≡ 0 → IfErr result (λ why. why ≡ Memory) }
     ensures met { IsTrue D.tells → IsSoundMerge rows.old tables.now.tables (D.world disk.old).seen.held → IfErr result (λ why. why ≢ Memory → 1 ≤ blocks_left tables.now.tables rows.old.walks) }
     ensures moves { OnlyReads (D.world disk.old) (D.world disk.new) }
     ensures twice { ReadMoves (2 * blocks) (D.world disk.old) (D.world disk.new) }
@@ -55,10 +56,11 @@ pub(crate) fn take_rows<'m, F: RangeFilter, D: Disk>(
 {
     let mut left = blocks;
     while !is_full(beside, built) {
-        left = read_ahead(rows, disk, tables, left)?;
-        if left == 0 {
+        let ahead = read_ahead(rows, disk, tables, left)?;
+        let Some(rest) = ahead else {
             return Ok(Stop::Blocks);
-        }
+        };
+        left = rest;
         if !rows.advance_filled() {
             return Ok(Stop::End);
         }
@@ -74,38 +76,44 @@ fn is_full(beside: usize, built: &TableBuilder) -> bool
     beside > 0 && built.data_pages() >= u64::from(MERGE_DATA_PAGES)
 }
 
-// Reads the blocks that the next row wants, at most so many, and answers how many may still be read: 0 where it may want more.
+// Reads the blocks that the next row wants, at most so many, and answers how many may still be read; or `None` where it wants one
+// more.
 fn read_ahead<'m, F: RangeFilter, D: Disk>(
     rows: &mut MergeRows<'m>,
     disk: &mut D,
     tables: &Tables<F>,
     blocks: u32,
-) -> Result<u32, JobFault>
+) -> Result<Option<u32>, JobFault>
     requires there { AreWalksIn tables.now.tables (stands rows.old.walks) }
     ensures kept { KeepsRows D.tells tables.now.tables (D.world disk.old).seen.held rows.old rows.new }
-    ensures within { IfOk result (λ left. left ≤ blocks) }
+    ensures within { IfOk result (λ ahead. left_of ahead ≤ blocks) }
     ensures fewer { OnOk result (blocks_left tables.now.tables rows.new.walks ≤ blocks_left tables.now.tables rows.old.walks) }
-    ensures some { IfOk result (λ left. left < blocks → blocks_left tables.now.tables rows.new.walks < blocks_left tables.now.tables rows.old.walks) }
-    ensures none_wanted { IsTrue D.tells → IsSoundMerge rows.old tables.now.tables (D.world disk.old).seen.held → IfOk result (λ left. 0 < left → wanted rows.new tables.now.tables ≡ 0) }
-    ensures heads_pass { IfOk result (λ left. 0 < left → AreHeadsClear rows.new.floor rows.new.walks) }
-    ensures caught_up { IsTrue D.tells → IfOk result (λ left. 0 < left → AreCaughtUp rows.new.floor tables.now.tables (D.world disk.old).seen.held rows.new.walks) }
+    ensures some { IfOk result (λ ahead. left_of ahead < blocks → blocks_left tables.now.tables rows.new.walks < blocks_left tables.now.tables rows.old.walks) }
+    ensures more { IfOk result (λ ahead. ahead ≡ None → 1 ≤ blocks_left tables.now.tables rows.new.walks) }
+    ensures none_wanted { IsTrue D.tells → IsSoundMerge rows.old tables.now.tables (D.world disk.old).seen.held → IfOk result (λ ahead. is_some ahead ≡ true → wanted rows.new tables.now.tables ≡ 0) }
+    ensures heads_pass { IfOk result (λ ahead. is_some ahead ≡ true → AreHeadsClear rows.new.floor rows.new.walks) }
+    ensures caught_up { IsTrue D.tells → IfOk result (λ ahead. is_some ahead ≡ true → AreCaughtUp rows.new.floor tables.now.tables (D.world disk.old).seen.held rows.new.walks) }
     ensures fault { IfErr result (IsTakeFault D.tells tables.now.tables (numbers rows.old.walks) (D.world disk.old) (D.world disk.new)) }
+    ensures unread { OnErr result (0 < blocks) }
     ensures met { IsTrue D.tells → IsSoundMerge rows.old tables.now.tables (D.world disk.old).seen.held → OnErr result (1 ≤ blocks_left tables.now.tables rows.old.walks) }
     ensures moves { OnlyReads (D.world disk.old) (D.world disk.new) }
-    ensures paced { IfOk result (λ left. ReadMoves (2 * (blocks - left)) (D.world disk.old) (D.world disk.new)) }
+    ensures paced { IfOk result (λ ahead. ReadMoves (2 * (blocks - left_of ahead)) (D.world disk.old) (D.world disk.new)) }
     ensures twice { ReadMoves (2 * blocks) (D.world disk.old) (D.world disk.new) }
     ensures bounded { IsTrue D.tells → IsSoundMerge rows.old tables.now.tables (D.world disk.old).seen.held → ReadMoves blocks (D.world disk.old) (D.world disk.new) }
-    ensures counted { IsTrue D.tells → IsSoundMerge rows.old tables.now.tables (D.world disk.old).seen.held → IfOk result (λ left. ReadMoves (blocks - left) (D.world disk.old) (D.world disk.new)) }
+    ensures counted { IsTrue D.tells → IsSoundMerge rows.old tables.now.tables (D.world disk.old).seen.held → IfOk result (λ ahead. ReadMoves (blocks - left_of ahead) (D.world disk.old) (D.world disk.new)) }
 {
     let mut left = blocks;
     while left > 0 {
         match rows.fill(disk, tables) {
             Ok(true) => left -= 1,
-            Ok(false) => return Ok(left),
+            Ok(false) => return Ok(Some(left)),
             Err(why) => return Err(JobFault::from(why)),
         }
     }
-    Ok(0)
+    if rows.wants_block(disk, tables) {
+        return Ok(None);
+    }
+    Ok(Some(0))
 }
 
 // Adds the row at hand, but for a tombstone that is left out.

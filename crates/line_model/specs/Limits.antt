@@ -1,7 +1,7 @@
 -- How a request that breaks a limit of keys, values or bounds is answered.
 use Rattle.std.specs.Prelude.{nat_lt, if◌then◌else◌, length, Option, Some, None}
 use Rattle.std.specs.Option.{option_or}
-use Rattle.key_base.specs.Limits.{is_no_key_length, max_logged_value_bytes, max_bound_bytes}
+use Rattle.key_base.specs.Limits.{is_no_key_length, max_bound_bytes, max_value_bytes}
 use Rattle.map_model.specs.SortedMap.{Bytes}
 use Rattle.line_model.specs.Requests.{Request, Put, Del, Get, Seek, Range, Count, Estimate, Explain, Flush, Compact, Quit, Bad}
 use Rattle.line_model.specs.Replies.{Reply, LongKey, LongValue}
@@ -12,7 +12,7 @@ key_limit key = if is_no_key_length (length key) then Some (LongKey (length key)
 
 -- a value has no more bytes than its limit
 abbrev pub value_limit : Bytes → Option Reply
-value_limit value = if nat_lt max_logged_value_bytes (length value) then Some (LongValue (length value)) else None
+value_limit value = if nat_lt max_value_bytes (length value) then Some (LongValue (length value)) else None
 
 -- a bound may be empty
 abbrev pub bound_limit : Bytes → Option Reply

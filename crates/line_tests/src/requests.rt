@@ -1,4 +1,5 @@
 //! Lines that are read as requests.
+use std::alloc::{AllocError, Global};
 use std::test::Fail;
 use store_commands::{BadLine, Request, Scratch, next_line, parse_line};
 
@@ -106,19 +107,62 @@ fn the_first_rule_that_a_line_breaks(rt: HostRuntime) -> Result<(), Fail> {
     Ok(())
 }
 
+// A line of so many bytes: these, and digits behind them.
+fn line_of(alloc: Global, first: &[u8], len: usize) -> Result<Vec<u8>, AllocError> {
+    let mut line = Vec::from_slice(alloc, first)?;
+    line.resize(len, b'6')?;
+    Ok(line)
+}
+
+// How long lines begin, how long they are, and the code that each is refused with, 0 where it is read: at last a put of the
+// longest value, and of one that is a byte longer, which is no matter of the grammar.
+const LONG: [(&[u8], usize, u8); 6] = [
+    (b"6", 2_100_000, 2),
+    (b"get ", 2_100_001, 1),
+    (b"get ", 2_099_999, 4),
+    (b"get ", 2_100_000, 0),
+    (b"put 61 ", 2_097_159, 0),
+    (b"put 61 ", 2_097_161, 0),
+];
+
 #[test]
 fn the_longest_line(rt: HostRuntime) -> Result<(), Fail> {
     let mut scratch = Scratch::new(rt.alloc())?;
-    let mut line = [b'6'; 140_001];
-    assert_eq!(rt; code(parse_line(&line[..140_000], &mut scratch)), 2);
-    line[..4].copy_from_slice(b"get ");
-    for (len, wanted) in [(140_001, 1), (139_999, 4)] {
-        let code = code(parse_line(&line[..len], &mut scratch));
-        assert_eq!(rt; code, wanted, "of {len} bytes");
+    for (first, len, wanted) in LONG {
+        let line = line_of(rt.alloc(), first, len)?;
+        assert_eq!(rt;
+            code(parse_line(&line, &mut scratch)),
+            wanted,
+            "of {len} bytes"
+        );
     }
-    match parse_line(&line[..140_000], &mut scratch) {
-        Ok(Request::Get { key }) => assert_eq!(rt; key.len(), 69_998),
-        _ => assert!(rt; false),
+    Ok(())
+}
+
+// How many bytes a request has as its key and its value.
+fn lengths(request: Request<'_>) -> (usize, usize) {
+    match request {
+        Request::Put { key, value } => (key.len(), value.len()),
+        Request::Get { key } => (key.len(), 0),
+        _ => (0, 0),
+    }
+}
+
+// A second line is read into the room that the first one took.
+#[test]
+fn long_words_are_read_whole(rt: HostRuntime) -> Result<(), Fail> {
+    let mut scratch = Scratch::new(rt.alloc())?;
+    let rows: [(&[u8], usize, (usize, usize)); 3] = [
+        (b"get ", 2_100_000, (1_049_998, 0)),
+        (b"put 61 ", 2_097_159, (1, 1_048_576)),
+        (b"put 61 ", 9, (1, 1)),
+    ];
+    for (first, len, wanted) in rows {
+        let line = line_of(rt.alloc(), first, len)?;
+        match parse_line(&line, &mut scratch) {
+            Ok(request) => assert_eq!(rt; lengths(request), wanted, "of {len} bytes"),
+            Err(_) => assert!(rt; false, "of {len} bytes"),
+        }
     }
     Ok(())
 }

@@ -1,6 +1,6 @@
 -- Keys with their values, in one order and in another.
 use Rattle.std.proofs.Common.{◌≡◌, ◌+◌, ℕ, List, [], ◌∷◌, Bool, true, false, length, map, refl, sym, ap, subst, ◌∙◌, arith, inl, inr, length-append}
-use Rattle.std.specs.Prelude.{if◌then◌else◌, sum_by, zip, Some}
+use Rattle.std.specs.Prelude.{if◌then◌else◌, sum_by, zip, None, Some}
 use Rattle.std.specs.List.{All, AllByRecursion, AllPairs, Contains, concat}
 use Rattle.std.specs.Option.{option_map_or}
 use Rattle.std.proofs.lemmas.Bool.{cases_Bool, false≢true}
@@ -47,6 +47,25 @@ value_paired f (key ∷ keys) k c = elim (cases_Bool (bytes_eq key k)) [
         | inr there ↦ there
       ])
 ]
+
+pub get_paired : (f : Bytes → Bytes) (keys : List Bytes) (k : Bytes) → Contains keys k → get (paired f keys) k ≡ Some (f k)
+get_paired f [] k c = absurd (Contains-nil k c)
+get_paired f (key ∷ keys) k c = elim (cases_Bool (bytes_eq key k)) [
+  | inl same ↦
+      ap (λ (t : Bool). if t then Some (f key) else get (paired f keys) k) same ∙ ap (λ (x : Bytes). Some (f x)) (same-true key k same)
+  | inr other ↦
+      ap (λ (t : Bool). if t then Some (f key) else get (paired f keys) k) other
+      ∙ get_paired f keys k (elim (Contains-cases key keys k c) [
+        | inl here ↦ absurd (false≢true (sym other ∙ ap (bytes_eq key) (sym here) ∙ same-itself key))
+        | inr there ↦ there
+      ])
+]
+
+pub get_missing : (f : Bytes → Bytes) (keys : List Bytes) (k : Bytes) → (Contains keys k → ⊥) → get (paired f keys) k ≡ None
+get_missing f [] k h = refl
+get_missing f (key ∷ keys) k h =
+    ap (λ (t : Bool). if t then Some (f key) else get (paired f keys) k) (same-false key k (λ same. h (subst (Contains (key ∷ keys)) same (Contains-first key keys))))
+    ∙ get_missing f keys k (λ c. h (Contains-more key keys k c))
 
 -- a map whose keys are different is its keys with the values under them
 pub paired_again : (pairs : Map) → AllPairs Apart (keys_of pairs) → paired (value_of pairs) (keys_of pairs) ≡ pairs

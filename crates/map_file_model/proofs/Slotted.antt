@@ -92,7 +92,7 @@ module _ (keys : List Bytes) (h : IsKeyList keys) where
   in_order : in_slots leaves ≡ by_length (height leaves) leaves
   in_order = slots_by_length leaves (tries keys h)
 
-  held : (l : Leaf) → Contains (in_slots leaves) l → Contains leaves l
+  pub held : (l : Leaf) → Contains (in_slots leaves) l → Contains leaves l
   held l c = held_by_length leaves (height leaves) l (subst (λ (ls : List Leaf). Contains ls l) in_order c)
 
   pub slotted_is_key : (k : Bytes) → Contains (slotted keys) k → Contains keys k

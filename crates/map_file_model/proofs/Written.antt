@@ -1,10 +1,10 @@
 -- Bytes that break no rule are the body of the map that is read of them.
 use Rattle.std.proofs.Common.{◌≡◌, ◌<◌, ◌≤◌, ◌+◌, ◌-◌, ◌*◌, ◌^◌, ℕ, suc, List, [], ◌∷◌, ◌++◌, length, take, drop, get_or, map, slice_range, refl, sym, ap, subst, ◌∙◌, arith}
-use Rattle.std.specs.Prelude.{zip}
-use Rattle.std.specs.List.{All, AllByRecursion, concat}
+use Rattle.std.specs.Prelude.{zip, Some}
+use Rattle.std.specs.List.{All, AllByRecursion, Contains, concat}
 use Rattle.std.proofs.Math.Seq.{take-add}
-use Rattle.std.proofs.lemmas.List.{drop-drop, length-drop, length-map, length-take-le, take-append-drop, take_all}
-use Rattle.std.proofs.lemmas.List.Elements.{All-map}
+use Rattle.std.proofs.lemmas.List.{drop-drop, get_or-map, length-drop, length-map, length-take-le, take-append-drop, take_all}
+use Rattle.std.proofs.lemmas.List.Elements.{All-map, Contains-get_or}
 use Rattle.byteorder.specs.Endian.{little_bytes, little_number}
 use Rattle.byte_fields.specs.Spelling.{IsBytes}
 use Rattle.byte_fields.specs.Sums.{fnv_of}
@@ -22,10 +22,10 @@ use Rattle.filter_model.specs.Trie.{height}
 use Rattle.filter_model.specs.Valid.{IsLeafList}
 use Rattle.key_base.specs.KeyLists.{AreEnds, keys_in}
 use Rattle.map_file_model.specs.Body.{body_head, body_of, ends_from, front_of, offsets_of, slotted_values, summed, words}
-use Rattle.map_file_model.specs.Laws.{BodyWasWrittenSo, IsBody}
-use Rattle.map_file_model.specs.Maps.{Bytes, IsMap, keys_of, paired, slotted, value_bytes, value_of}
+use Rattle.map_file_model.specs.Laws.{BodyWasWrittenSo, HasValuesBySlots, IsBody, ValuesStandBySlots}
+use Rattle.map_file_model.specs.Maps.{Bytes, IsMap, Map, get, keys_of, paired, slotted, value_bytes, value_of}
 use Rattle.map_file_model.specs.Reading.{image_length_in, image_part, keys_read, map_in, offset_at, offsets_in, offsets_place, pair_count_in, sum_place, values_in, values_place, words_in}
-use Rattle.map_file_model.proofs.Pairing.{agree, bytes_paired, keys_paired, length-concat, value_paired, zip_values, zipped_is_bytes}
+use Rattle.map_file_model.proofs.Pairing.{agree, bytes_paired, get_missing, get_paired, keys_paired, length-concat, value_paired, zip_values, zipped_is_bytes}
 use Rattle.map_file_model.proofs.Rules.{KeepsRules, rules_kept, wanted}
 use Rattle.map_file_model.proofs.Slotted.{slotted_is_key, slotted_once, slotted_size, sums_agree}
 use Rattle.map_file_model.proofs.Words.{AreCut, ends_rise, length-pieces, length-words_in, pieces_are_bytes, pieces_back, words_at, words_back}
@@ -234,5 +234,31 @@ module _ (bytes : Bytes) (h : IsBytes bytes) (k : KeepsRules bytes) where
     bytes_are = body_is;
   }
 
+  -- ---- a value by its slot
+
+  slots_count : length (slotted keys) ≡ count
+  slots_count = slotted_size keys whole.keys ∙ key_count
+
+  value_there : (slot : ℕ) → slot < count → value (get_or (slotted keys) slot []) ≡ get_or (values_in bytes) slot []
+  value_there slot lt =
+      sym (get_or-map value (slotted keys) slot [] [] (omega (arith, lt, slots_count))) ∙ ap (λ (l : List Bytes). get_or l slot []) under_slots
+
+  here_in : (slot : ℕ) → slot < count → get (map_in bytes) (get_or (slotted keys) slot []) ≡ Some (get_or (values_in bytes) slot [])
+  here_in slot lt =
+      let key = get_or (slotted keys) slot [] in
+      let held = slotted_is_key keys whole.keys key (Contains-get_or (slotted keys) slot [] (omega (arith, lt, slots_count))) in
+      ap (λ (m : Map). get m key) map_is ∙ get_paired value keys key held ∙ ap (λ (v : Bytes). Some v) (value_there slot lt)
+
+  by_slots : HasValuesBySlots bytes
+  by_slots = record {
+    leaves_are = sym leaves_are;
+    as_many = ap (λ (ks : List Bytes). length (slotted ks)) keys_are ∙ slots_count;
+    here = λ slot lt. ap (λ (ks : List Bytes). get (map_in bytes) (get_or (slotted ks) slot [])) keys_are ∙ here_in slot lt;
+    elsewhere = λ key none. ap (λ (m : Map). get m key) map_is ∙ get_missing value keys key (λ c. none (subst (λ (ks : List Bytes). Contains ks key) (sym keys_are) c));
+  }
+
 pub body_written : BodyWasWrittenSo
 body_written bytes h e = is_body bytes h (rules_kept bytes e)
+
+pub values_by_slots : ValuesStandBySlots
+values_by_slots bytes h e = by_slots bytes h (rules_kept bytes e)

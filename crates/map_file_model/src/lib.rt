@@ -2,7 +2,7 @@
 //! break, and where.
 //!
 //! A static map is a sorted map in one piece of bytes, read only: the image of a trie of its whole keys, where the value of
-//! each begins, the values in the order of the trie's slots, and a sum of all. The three laws say that the format is exact:
+//! each begins, the values in the order of the trie's slots, and a sum of all. Three laws say that the format is exact:
 //! bytes that break no rule are the body of a map, the body of each map with each cutoff breaks none and is read as that map,
 //! and no two maps have one body. So whoever judges bytes by these rules takes exactly the files that spell a map.
 //!
@@ -21,4 +21,6 @@
 pub mod examples;
 mod laws;
 
-pub use laws::{a_body_has_one_map, a_body_is_read_again, a_body_was_written_so};
+pub use laws::{
+    a_body_has_one_map, a_body_is_read_again, a_body_was_written_so, values_stand_by_slots,
+};

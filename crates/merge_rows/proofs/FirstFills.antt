@@ -57,6 +57,15 @@ at_most f [] i d lt = absurd (omega (arith, lt))
 at_most f (w ∷ more) zero d lt = let sum = sum_by-cons f w more in omega (arith, sum)
 at_most f (w ∷ more) (suc i) d lt = let sum = sum_by-cons f w more in let rest = at_most f more i d (omega (arith, lt)) in omega (arith, sum, rest)
 
+-- an item that is one in their sum
+pub set_some : (f : TableWalk → ℕ) (walks : List TableWalk) (i : ℕ) (x : TableWalk) → i < length walks → f x ≡ 1 → 1 ≤ sum_by f (slice_set walks i x)
+set_some f [] i x lt one = absurd (omega (arith, lt))
+set_some f (w ∷ more) zero x lt one = let sum = sum_by-cons f x more in omega (arith, sum, one)
+set_some f (w ∷ more) (suc i) x lt one =
+    let sum = sum_by-cons f w (slice_set more i x) in
+    let rest = set_some f more i x (omega (arith, lt)) one in
+    omega (arith, sum, rest)
+
 -- its number is one of theirs
 pub number_among : (walks : List TableWalk) (i : ℕ) (d : TableWalk) → i < length walks → Contains (numbers walks) (get_or walks i d).number
 number_among [] i d lt = absurd (omega (arith, lt))

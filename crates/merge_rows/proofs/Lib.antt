@@ -12,3 +12,4 @@ pub mod RowSteps
 pub mod Standing
 pub mod Stays
 pub mod Steps
+pub mod WantedLeft

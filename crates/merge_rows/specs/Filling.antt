@@ -1,6 +1,7 @@
--- What filling does, whole: a block is read for the first of some walks that wants one.
-use Rattle.std.specs.Prelude.{◌≡◌, ◌≤◌, ◌+◌, Bool, false, List, length, map, Result, IsTrue, IfOk, IfErr, OnOk, OnErr}
+-- What filling does, whole: a block is read for the first of some walks that wants one. And what asking for it does, with no read.
+use Rattle.std.specs.Prelude.{◌≡◌, ◌≤◌, ◌+◌, Bool, true, false, List, length, map, Result, IsTrue, IfOk, IfErr, OnOk, OnErr}
 use Rattle.block_model.specs.Places.{byte_of_page}
+use Rattle.disk_trait.specs.Image.{Image}
 use Rattle.disk_trait.specs.World.{ReadMoves, World}
 use Rattle.merge_rows.specs.Merges.{TableWalk, left_above}
 use Rattle.merge_rows.specs.Reads.{IsFewer, IsRead, SomeBlock, blocks_left, next_blocks, wanted_by}
@@ -35,3 +36,18 @@ pub record FillsWalks (tells : Bool) (floor : KeyFloor) (tables : List Opened) (
   pub left : IsRead result (blocks_left tables old) (blocks_left tables new)
   -- of sound tables at most one block, which the next row wanted
   pub once : IsTrue tells → AreSoundWalks floor tables before.seen.held old → ReadMoves 1 before after × IsFewer result (wanted_by floor tables old) (wanted_by floor tables new)
+
+-- The walks passed over what is in memory and not above the floor, and were asked whether one of them wants a block: how many want
+-- one is as before, and where none does each has an entry above the floor at hand, or none is left of it.
+pub record AsksWalks (tells : Bool) (floor : KeyFloor) (tables : List Opened) (image : Image) (old new : List TableWalk) (wants : Bool) : Type 0 where
+  pub numbers_are : numbers new ≡ numbers old
+  pub stands_are : stands new ≡ stands old
+  pub same : IsTrue tells → map (left_above floor tables image) new ≡ map (left_above floor tables image) old
+  pub sound : IsTrue tells → AreSoundWalks floor tables image old → AreSoundWalks floor tables image new
+  pub next : IsTrue tells → next_blocks new ≡ next_blocks old
+  pub left : blocks_left tables new ≡ blocks_left tables old
+  pub wanted : IsTrue tells → AreSoundWalks floor tables image old → wanted_by floor tables new ≡ wanted_by floor tables old
+  pub some : wants ≡ true → 1 ≤ wanted_by floor tables new
+  pub none : IsTrue tells → AreSoundWalks floor tables image old → wants ≡ false → wanted_by floor tables new ≡ 0
+  pub ready : IsTrue tells → wants ≡ false → AreCaughtUp floor tables image new
+  pub clear : wants ≡ false → AreHeadsClear floor new

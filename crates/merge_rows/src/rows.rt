@@ -1,5 +1,5 @@
 //! The merge.
-ghost use Rattle.std.specs.Prelude.{◌≡◌, ◌==◌, ◌<◌, ◌≤◌, ◌+◌, ◌||◌, Bool, false, not, is_some, [], List, length, map, Option, Some, None, slice_get, IsTrue, IfSome, IfOk, IfErr, OnOk, OnErr, MatchResult};
+ghost use Rattle.std.specs.Prelude.{◌≡◌, ◌==◌, ◌<◌, ◌≤◌, ◌+◌, ◌||◌, Bool, true, false, not, is_some, [], List, length, map, Option, Some, None, slice_get, IsTrue, IfSome, IfOk, IfErr, OnOk, OnErr, MatchResult};
 ghost use Rattle.std.specs.List.{AllByRecursion, list_any};
 ghost use Rattle.std.specs.Option.{option_map};
 ghost use Rattle.std.specs.Borrow.{sem};
@@ -19,7 +19,7 @@ ghost use Rattle.table_file.specs.Search.{IsGetFault, page_at};
 ghost use Rattle.table_file.specs.Walks.{first_of};
 
 use crate::choosing::Source;
-use crate::filling::fill_behind;
+use crate::filling::{fill_behind, wants_behind};
 use crate::floor::Floor;
 use crate::memory_source::MemorySource;
 use crate::table_source::{TableSource, has_number};
@@ -111,8 +111,8 @@ impl<'m> MergeRows<'m> {
         }
     }
 
-    /// The key and the value of the row at hand, `None` for a tombstone's value; or `None` where no row is at hand. They lie
-    /// where they were read.
+    /// The key and the value of the row at hand, `None` for a tombstone's value; or `None` where no row is at hand. The value
+    /// of a table's row lies where it was read, its key where it was built.
     pub fn entry(&self) -> Option<(&[u8], Option<&[u8]>)>
         ensures now { option_map (λ found. entry_of found.0.now (option_map (λ v. v.now) found.1)) result ≡ self.now.now }
         ensures sound { IfSome result (λ found. IsEntry (entry_of found.0.now (option_map (λ v. v.now) found.1))) }
@@ -149,6 +149,10 @@ impl<'m> MergeRows<'m> {
         ensures fault { IsTrue D.tells → IfErr result (λ why. SomeBlock tables.now.tables (numbers self.old.walks) (λ t n. IsGetFault t n (D.world disk.old).seen.held why)) }
         ensures moves { OnlyReads (D.world disk.old) (D.world disk.new) }
         ensures left { OnOk result (blocks_left tables.now.tables self.new.walks ≤ blocks_left tables.now.tables self.old.walks) }
+        ensures spent { IsTrue D.tells → IsSoundMerge self.old tables.now.tables (D.world disk.old).seen.held
+            → OnOk result ((D.world disk.new).seen.reads + blocks_left tables.now.tables self.new.walks ≤ (D.world disk.old).seen.reads + blocks_left tables.now.tables self.old.walks) }
+        ensures tried { IsTrue D.tells → IsSoundMerge self.old tables.now.tables (D.world disk.old).seen.held
+            → OnErr result ((D.world disk.new).seen.reads ≤ (D.world disk.old).seen.reads + blocks_left tables.now.tables self.old.walks) }
         ensures counted { IsTrue D.tells → OnOk result ((D.world disk.new).seen.reads + next_blocks self.old.walks ≡ (D.world disk.old).seen.reads + next_blocks self.new.walks) }
         ensures bounded { IsTrue D.tells → self.old.drops ≡ false → IsSoundMerge self.old tables.now.tables (D.world disk.old).seen.held
             → ReadMoves (wanted self.old tables.now.tables) (D.world disk.old) (D.world disk.new) }
@@ -198,8 +202,28 @@ impl<'m> MergeRows<'m> {
         fill_behind(row, &mut self.walks, disk, tables, &self.floor)
     }
 
-    /// Goes on to the next row where it wants no block, as behind a [`fill`](MergeRows::fill) that did not read, and answers
-    /// whether there is one: it is then at hand. No read and no memory. Not where tombstones are dropped: the rows behind them
+    /// Whether the next row wants a block. Then no row is at hand. No read and no memory. Who may read no block more asks this
+    /// before [`advance_filled`](MergeRows::advance_filled).
+    pub fn wants_block<F: RangeFilter, D: Disk>(&mut self, disk: &mut D, tables: &Tables<F>) -> bool
+        requires { AreWalksIn tables.now.tables (stands self.old.walks) }
+        ensures stays { StaysAt D.tells tables.now.tables (D.world disk.old).seen.held self.old self.new }
+        ensures memory { self.new.memory ≡ self.old.memory }
+        ensures ready { IsTrue D.tells → result ≡ false → AreCaughtUp self.old.floor tables.now.tables (D.world disk.old).seen.held self.new.walks }
+        ensures clear { result ≡ false → AreHeadsClear self.old.floor self.new.walks }
+        ensures some { result ≡ true → 1 ≤ wanted self.new tables.now.tables }
+        ensures none { IsTrue D.tells → IsSoundMerge self.old tables.now.tables (D.world disk.old).seen.held → result ≡ false → wanted self.new tables.now.tables ≡ 0 }
+        ensures same { IsTrue D.tells → IsSoundMerge self.old tables.now.tables (D.world disk.old).seen.held → wanted self.new tables.now.tables ≡ wanted self.old tables.now.tables }
+        ensures left { blocks_left tables.now.tables self.new.walks ≡ blocks_left tables.now.tables self.old.walks }
+        ensures next { IsTrue D.tells → next_blocks self.new.walks ≡ next_blocks self.old.walks }
+        ensures moves { ReadMoves 0 (D.world disk.old) (D.world disk.new) }
+    {
+        let row = self.row;
+        self.row = None;
+        wants_behind(row, &mut self.walks, disk, tables, &self.floor)
+    }
+
+    /// Goes on to the next row where it wants no block, as behind a [`fill`](MergeRows::fill) that did not read, or where
+    /// [`wants_block`](MergeRows::wants_block) says so, and answers whether there is one: it is then at hand. No read and no memory. Not where tombstones are dropped: the rows behind them
     /// may want blocks.
     pub fn advance_filled(&mut self) -> bool
         requires whole { self.old.drops ≡ false }
@@ -257,6 +281,10 @@ impl<'m> MergeRows<'m> {
         ensures fault { IsTrue D.tells → IfErr result (λ why. SomeBlock tables.now.tables (numbers self.old.walks) (λ t n. IsGetFault t n (D.world disk.old).seen.held why)) }
         ensures moves { OnlyReads (D.world disk.old) (D.world disk.new) }
         ensures left { OnOk result (blocks_left tables.now.tables self.new.walks ≤ blocks_left tables.now.tables self.old.walks) }
+        ensures spent { IsTrue D.tells → IsSoundMerge self.old tables.now.tables (D.world disk.old).seen.held
+            → OnOk result ((D.world disk.new).seen.reads + blocks_left tables.now.tables self.new.walks ≤ (D.world disk.old).seen.reads + blocks_left tables.now.tables self.old.walks) }
+        ensures tried { IsTrue D.tells → IsSoundMerge self.old tables.now.tables (D.world disk.old).seen.held
+            → OnErr result ((D.world disk.new).seen.reads ≤ (D.world disk.old).seen.reads + blocks_left tables.now.tables self.old.walks) }
         ensures counted { IsTrue D.tells → OnOk result ((D.world disk.new).seen.reads + next_blocks self.old.walks ≡ (D.world disk.old).seen.reads + next_blocks self.new.walks) }
         ensures bounded { IsTrue D.tells → IsSoundMerge self.old tables.now.tables (D.world disk.old).seen.held
             → ReadMoves (wanted self.old tables.now.tables) (D.world disk.old) (D.world disk.new) }
@@ -297,6 +325,10 @@ impl<'m> MergeRows<'m> {
         ensures fault { IsTrue D.tells → IfErr result (λ why. SomeBlock tables.now.tables (numbers self.old.walks) (λ t n. IsGetFault t n (D.world disk.old).seen.held why)) }
         ensures moves { OnlyReads (D.world disk.old) (D.world disk.new) }
         ensures left { OnOk result (blocks_left tables.now.tables self.new.walks ≤ blocks_left tables.now.tables self.old.walks) }
+        ensures spent { IsTrue D.tells → IsSoundMerge self.old tables.now.tables (D.world disk.old).seen.held
+            → OnOk result ((D.world disk.new).seen.reads + blocks_left tables.now.tables self.new.walks ≤ (D.world disk.old).seen.reads + blocks_left tables.now.tables self.old.walks) }
+        ensures tried { IsTrue D.tells → IsSoundMerge self.old tables.now.tables (D.world disk.old).seen.held
+            → OnErr result ((D.world disk.new).seen.reads ≤ (D.world disk.old).seen.reads + blocks_left tables.now.tables self.old.walks) }
         ensures counted { IsTrue D.tells → OnOk result ((D.world disk.new).seen.reads + next_blocks self.old.walks ≡ (D.world disk.old).seen.reads + next_blocks self.new.walks) }
         ensures bounded { IsTrue D.tells → IsSoundMerge self.old tables.now.tables (D.world disk.old).seen.held
             → ReadMoves (wanted self.old tables.now.tables) (D.world disk.old) (D.world disk.new) }

@@ -6,10 +6,10 @@ ghost use Rattle.block_model.specs.Places.{byte_of_page};
 ghost use Rattle.disk_trait.specs.World.{ReadMoves};
 ghost use Rattle.entry_model.specs.Entries.{IsEntry, entry_of};
 ghost use Rattle.key_base.specs.ByteOrder.{is_before};
-ghost use Rattle.merge_rows.specs.Filling.{FillsWalks};
+ghost use Rattle.merge_rows.specs.Filling.{AsksWalks, FillsWalks};
 ghost use Rattle.merge_rows.specs.Leads.{key_at_hand, lead_of};
 ghost use Rattle.merge_rows.specs.Merges.{blocks_in, left_above, numbered, walk_at, walk_left, with_hand};
-ghost use Rattle.merge_rows.specs.Reads.{BlockOf, IsFewer, IsRead, blocks_left_in, is_used_up, wanted_block_of};
+ghost use Rattle.merge_rows.specs.Reads.{BlockOf, IsFewer, IsRead, blocks_left_in, is_used_up, ones, wanted_block_of};
 ghost use Rattle.merge_rows.specs.Rows.{above_floor};
 ghost use Rattle.merge_rows.specs.Steps.{AreWalksIn, HasRoomFor, IsCaughtUp, IsHeadClear, IsPassed, IsSoundWalk, numbers, stands};
 ghost use Rattle.table_file.specs.Faults.{HasReadCause, IsNoWant};
@@ -172,8 +172,14 @@ impl TableSource {
         false
     }
 
-    // Passes over the entries in memory that are not above the floor. No read and no memory.
-    fn pass<F: RangeFilter, D: Disk>(&mut self, disk: &mut D, tables: &Tables<F>, floor: &Floor)
+    // Passes over the entries in memory that are not above the floor, and answers whether a block is wanted then. No read and
+    // no memory.
+    fn pass<F: RangeFilter, D: Disk>(
+        &mut self,
+        disk: &mut D,
+        tables: &Tables<F>,
+        floor: &Floor,
+    ) -> bool
         requires there { self.old.number < length tables.now.tables }
         requires room { HasRoomFor (numbered tables.now.tables self.old.number) self.old.walk.room }
         ensures number { self.new.number ≡ self.old.number }
@@ -184,10 +190,13 @@ impl TableSource {
         ensures block { self.new.walk.block ≡ self.old.walk.block }
         ensures wanted { IsTrue D.tells → IsSoundWalk floor.now self.old.walk (blocks_in (numbered tables.now.tables self.old.number) (D.world disk.old).seen.held)
             → wanted_block_of floor.now tables.now.tables self.new ≡ wanted_block_of floor.now tables.now.tables self.old }
+        ensures asked { wanted_block_of floor.now tables.now.tables self.new ≡ ones result }
+        ensures ready { IsTrue D.tells → result ≡ false → IsCaughtUp floor.now self.new.walk.now (walk_left tables.now.tables (D.world disk.old).seen.held self.new) }
+        ensures clear { result ≡ false → IsHeadClear floor.now self.new.walk.now }
         ensures moves { ReadMoves 0 (D.world disk.old) (D.world disk.new) }
     {
         let table = table_of(self.number, tables);
-        self.pass_over(disk, table, floor);
+        self.pass_over(disk, table, floor)
     }
 
     /// Passes over the entries in memory that are not above the floor, and reads a block where none is left then: the next one.
@@ -278,6 +287,30 @@ pub(crate) fn fill_first<F: RangeFilter, D: Disk>(
         }
     }
     Ok(false)
+}
+
+/// Whether one of the walks wants a block, once each has passed over the entries in memory that are not above the floor. If not,
+/// each has an entry above the floor at hand, or none is left of it. No read and no memory.
+pub(crate) fn wants_any<F: RangeFilter, D: Disk>(
+    walks: &mut [TableSource],
+    disk: &mut D,
+    tables: &Tables<F>,
+    floor: &Floor,
+) -> bool
+    requires { AreWalksIn tables.now.tables (stands walks.old) }
+    ensures asks { AsksWalks D.tells floor.now tables.now.tables (D.world disk.old).seen.held walks.old walks.new result }
+    ensures moves { ReadMoves 0 (D.world disk.old) (D.world disk.new) }
+{
+    for i in 0..walks.len() {
+        // most walks stand above the floor already, and want none
+        if walks[i].leads(floor) {
+            continue;
+        }
+        if walks[i].pass(disk, tables, floor) {
+            return true;
+        }
+    }
+    false
 }
 
 // The key of an entry, or that of no byte where there is none.

@@ -18,7 +18,7 @@ use crate::table::Table;
 use crate::view::newest_entries;
 use entry_list::{Entry, body_length, copied, push_copy};
 use filter_api::RangeFilter;
-use key_base::{LOG_BYTES, MAX_LEVEL, MAX_TABLES};
+use key_base::{LOG_BYTES, MAX_LEVEL, MAX_LOGGED_VALUE_BYTES, MAX_TABLES};
 use std::alloc::{AllocError, Global};
 
 /// Why a change is refused.
@@ -96,7 +96,8 @@ fn logged(state: State, entry: &Entry) -> Result<State, AllocError>
     Ok(state)
 }
 
-/// The entry is logged, after a flush exactly where its record does not fit the log area.
+/// The entry is logged, after a flush exactly where its record does not fit the log area. One whose value is longer than any
+/// that the log takes is flushed, over the memory entries.
 pub fn written<F: RangeFilter>(
     alloc: Global,
     state: &State,
@@ -104,6 +105,11 @@ pub fn written<F: RangeFilter>(
 ) -> Result<Result<State, Refusal>, AllocError>
     ensures { IfOk result (λ changed. as_replied changed ≡ model.written (filter_bytes_of F.spelling F.built_cutoff) state.now entry.now) }
 {
+    if is_long(entry) {
+        let same = state.copy(alloc)?;
+        let with_it = logged(same, entry)?;
+        return flushed::<F>(alloc, &with_it);
+    }
     if record_length(entry)?.checked_add(1).ok_or(AllocError)? <= log_gap(state)? {
         let same = state.copy(alloc)?;
         let state = logged(same, entry)?;
@@ -115,6 +121,16 @@ pub fn written<F: RangeFilter>(
             Ok(Ok(state))
         }
         Err(refusal) => Ok(Err(refusal)),
+    }
+}
+
+// Whether the value is longer than any that the log takes.
+fn is_long(entry: &Entry) -> bool
+    ensures { result ≡ model.is_long entry.now }
+{
+    match entry.value() {
+        Some(bytes) => bytes.len() > MAX_LOGGED_VALUE_BYTES,
+        None => false,
     }
 }
 

@@ -181,6 +181,33 @@ pub fn merged<F: RangeFilter>(alloc: Global, state: &State) -> Result<State, All
     }
 }
 
+// The job goes on; where none of these outputs is left of it, it is installed, or dropped.
+fn went_on_by(
+    alloc: Global,
+    state: &State,
+    job: Job,
+    left: &[Vec<Entry>],
+) -> Result<State, AllocError>
+    ensures { IfOk result (λ s. s ≡ model.went_on_by state.now job (map vec_items left.now)) }
+{
+    if left.is_empty() {
+        return installed(alloc, state, &job);
+    }
+    state.with_job(alloc, job)
+}
+
+// The job goes on; where nothing is left of it, it is installed, or dropped.
+fn went_on(alloc: Global, state: &State, job: Job) -> Result<State, AllocError>
+    ensures { IfOk result (λ s. s ≡ model.went_on state.now job) }
+{
+    if job.to_read > 0 {
+        return state.with_job(alloc, job);
+    }
+    let outputs = outputs_of_job(alloc, state, &job)?;
+    let left = left_of(&job, outputs.as_slice());
+    went_on_by(alloc, state, job, left)
+}
+
 // The first of these outputs is written; where none is left the job is installed, or dropped.
 fn with_next<F: RangeFilter>(
     alloc: Global,
@@ -198,13 +225,14 @@ fn with_next<F: RangeFilter>(
     match placed::<F>(alloc, state, taken.as_slice(), job.output, &left[..1])? {
         Ok(made) => {
             let job = finished(job, made.as_slice())?;
-            state.with_job(alloc, job)
+            went_on(alloc, state, job)
         }
         Err(_) => state.without_job(alloc),
     }
 }
 
-// A merge slice of a job: it reads so many blocks, or where none is left writes the next output, or installs.
+// A merge slice of a job: it reads so many blocks, or where none is left writes the next output; and installs where then nothing is
+// left.
 fn sliced_by<F: RangeFilter>(
     alloc: Global,
     blocks: u64,
@@ -216,7 +244,7 @@ fn sliced_by<F: RangeFilter>(
     if job.to_read > 0 {
         let mut job = job;
         job.to_read = job.to_read.saturating_sub(blocks);
-        return state.with_job(alloc, job);
+        return went_on(alloc, state, job);
     }
     let outputs = outputs_of_job(alloc, state, &job)?;
     let left = left_of(&job, outputs.as_slice());

@@ -8,7 +8,7 @@ ghost use Rattle.plain_store.specs.Replies.{says};
 ghost use Rattle.store_commands.specs.Asks.{asked};
 
 use crate::reply::Reply;
-use key_base::{MAX_BOUND_BYTES, MAX_KEY_BYTES, MAX_LOGGED_VALUE_BYTES};
+use key_base::{MAX_BOUND_BYTES, MAX_KEY_BYTES, MAX_VALUE_BYTES};
 use store_commands::Request;
 
 fn key_limit(key: &[u8]) -> Option<Reply>
@@ -24,7 +24,7 @@ fn key_limit(key: &[u8]) -> Option<Reply>
 fn value_limit(value: &[u8]) -> Option<Reply>
     ensures { option_map says result ≡ model.value_limit value.now }
 {
-    if value.len() > MAX_LOGGED_VALUE_BYTES {
+    if value.len() > MAX_VALUE_BYTES {
         Some(Reply::LongValue(value.len() as u64))
     } else {
         None

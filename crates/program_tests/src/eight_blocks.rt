@@ -17,14 +17,37 @@ fn four_tables(alloc: Global, tables: [&[u8]; 4]) -> Result<Box<MemDisk>, Fail> 
     left_behind(alloc, base_disk(alloc)?, &lines)
 }
 
+// Four tables of 15, 16 and 17 blocks in all, and what is told of them behind a second put. A merge slice that reads the last
+// block installs, so that 16 blocks are two.
+const SLICES: [([&[u8]; 4], &[u8]); 3] = [
+    (
+        [b"159d", b"26ae", b"37bf", b"48c"],
+        b"tables 1 admitted 0 blocks 0\n",
+    ),
+    (
+        [b"159d", b"26ae", b"37bf", b"048c"],
+        b"tables 1 admitted 0 blocks 0\n",
+    ),
+    (
+        [b"159d", b"26ae", b"37bf", b"0248c"],
+        b"tables 4 admitted 0 blocks 0\n",
+    ),
+];
+
 #[test]
-fn fifteen_blocks_are_two_slices(rt: HostRuntime) -> Result<(), Fail> {
+fn sixteen_blocks_are_two_slices(rt: HostRuntime) -> Result<(), Fail> {
     let alloc = rt.alloc();
-    let disk = four_tables(alloc, [b"159d", b"26ae", b"37bf", b"48c"])?;
-    let lines = b"put 01 02\nexplain 00\nput 01 02\nexplain 00\n";
-    let end = served(alloc, disk, lines)?;
-    let replies = b"ok\ntables 4 admitted 0 blocks 0\nok\ntables 1 admitted 0 blocks 0\n";
-    check(&rt, &end, 0, replies, 0);
+    for (number, (tables, told)) in SLICES.iter().copied().enumerate() {
+        let disk = four_tables(alloc, tables)?;
+        let end = served(
+            alloc,
+            disk,
+            b"put 01 02\nexplain 00\nput 01 02\nexplain 00\n",
+        )?;
+        let mut said = Vec::from_slice(alloc, b"ok\ntables 4 admitted 0 blocks 0\nok\n")?;
+        said.extend_from_slice(told)?;
+        check(&rt, &end, 0, &said, number as u64);
+    }
     Ok(())
 }
 

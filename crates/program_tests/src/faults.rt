@@ -77,17 +77,17 @@ fn with_sevens(
     disk_of(alloc, &bytes)
 }
 
-// What a crash leaves of the writes that no sync followed.
+/// What a crash leaves of the writes that no sync followed.
 #[derive(Clone, Copy)]
-enum Left {
+pub enum Left {
     Whole,
     Lost,
     Half,
     Sevens,
 }
 
-// The disk as a crash leaves it. Half of a write is its first bytes, and 07 behind them.
-fn left_by(alloc: Global, disk: &MemDisk, left: Left) -> Result<Box<MemDisk>, AllocError> {
+/// The disk as a crash leaves it. Half of a write is its first bytes, and 07 behind them.
+pub fn left_by(alloc: Global, disk: &MemDisk, left: Left) -> Result<Box<MemDisk>, AllocError> {
     let lost = lost(alloc, disk)?;
     let whole = written(alloc, disk)?;
     let (first, last) = differing(whole.bytes(), lost.bytes());

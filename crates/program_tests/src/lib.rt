@@ -14,6 +14,8 @@ mod formats;
 #[cfg(test)]
 mod loads;
 #[cfg(test)]
+mod long_values;
+#[cfg(test)]
 mod many_tables;
 #[cfg(test)]
 mod memory;

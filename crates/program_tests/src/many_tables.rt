@@ -24,13 +24,17 @@ fn fill(alloc: Global, disk: &mut MemDisk) -> Result<(), Fail> {
     Ok(())
 }
 
-// Puts of the longest value with keys of one byte, until one is refused: why, and how many calls that one made.
+fn sevens(alloc: Global, count: usize) -> Result<Vec<u8>, AllocError> {
+    vec![in alloc; 7; count]
+}
+
+// Puts of the longest value that is logged, with keys of one byte, until one is refused: why, and how many calls it made.
 fn refusal(
     alloc: Global,
     store: &mut Store<Succinct>,
     disk: &mut MemDisk,
 ) -> Result<Option<(StoreError, usize)>, Fail> {
-    let value = vec![in alloc; 7; 65_536]?;
+    let value = sevens(alloc, 65_536)?;
     for key in 0..8u8 {
         let calls = disk.calls();
         if let Err(why) = store.put(disk, &[key], &value) {
@@ -93,5 +97,23 @@ fn a_put_refused_by_1024_tables_makes_no_call(rt: HostRuntime) -> Result<(), Fai
     let mut store = opened(alloc, &mut disk)?;
     let refused = refusal(alloc, &mut store, &mut disk)?;
     assert_eq!(rt; refused, Some((StoreError::Limit(Limit::Tables), 0)));
+    Ok(())
+}
+
+// Nothing is in memory: a long value asks for a table, and a short one does not.
+#[test]
+fn a_long_put_is_refused_by_1024_tables(rt: HostRuntime) -> Result<(), Fail> {
+    let alloc = rt.alloc();
+    let mut disk = formatted(alloc, "format --pages 4096 --variant base")?;
+    fill(alloc, &mut disk)?;
+    let mut store = opened(alloc, &mut disk)?;
+    let value = sevens(alloc, 65_537)?;
+    let calls = disk.calls();
+    assert_eq!(rt;
+        store.put(&mut *disk, b"a", &value),
+        Err(StoreError::Limit(Limit::Tables))
+    );
+    assert_eq!(rt; disk.calls(), calls);
+    assert_eq!(rt; store.put(&mut *disk, b"a", b"b"), Ok(()));
     Ok(())
 }

@@ -1,5 +1,5 @@
 //! Lines and their replies, and the bytes that they leave.
-use crate::runs::{Succinct, base_disk, check, served, served_by};
+use crate::runs::{Succinct, base_disk, check, disk_of, served, served_by};
 use disk_trait::Disk;
 use filter_api::RangeFilter;
 use plain_filter::PlainFilter;
@@ -106,11 +106,13 @@ fn put_line(alloc: Global, key: usize, value: usize) -> Result<Vec<u8>, AllocErr
 #[test]
 fn the_limits_of_keys_and_values(rt: HostRuntime) -> Result<(), Fail> {
     let alloc = rt.alloc();
-    let rows: [(usize, usize, &[u8]); 4] = [
+    let rows: [(usize, usize, &[u8]); 6] = [
         (1_024, 1, b"ok\n"),
         (1_025, 1, b"limit key 1025\n"),
         (1, 65_536, b"ok\n"),
-        (1, 65_537, b"limit value 65537\n"),
+        (1, 65_537, b"ok\n"),
+        (1, 1_048_576, b"ok\n"),
+        (1, 1_048_577, b"limit value 1048577\n"),
     ];
     for (key, value, reply) in rows {
         let line = put_line(alloc, key, value)?;
@@ -151,5 +153,12 @@ fn the_last_epoch_takes_no_flush(rt: HostRuntime) -> Result<(), Fail> {
     let end = served(alloc, disk, lines)?;
     let replies = b"ok\nok\nlimit epoch\nval 62\nlimit epoch\nval 62\n";
     check(&rt, &end, 0, replies, 0);
+    let mut lines = Vec::new(alloc);
+    for _ in 0..2 {
+        lines.extend_from_slice(&put_line(alloc, 1, 65_537)?)?;
+    }
+    lines.extend_from_slice(b"put 62 63\n")?;
+    let long = served(alloc, disk_of(alloc, end.disk.bytes())?, &lines)?;
+    check(&rt, &long, 0, b"limit epoch\nlimit epoch\nok\n", 1);
     Ok(())
 }

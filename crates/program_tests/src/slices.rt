@@ -92,6 +92,18 @@ fn damage_in_a_slice_ends_the_run(rt: HostRuntime) -> Result<(), Fail> {
     Ok(())
 }
 
+// The last block that the merge of twelve reads is at page 209: the slice behind the first put does not read it.
+#[test]
+fn damage_in_the_second_slice_ends_the_run(rt: HostRuntime) -> Result<(), Fail> {
+    let alloc = rt.alloc();
+    let mut disk = twelve_blocks(alloc)?;
+    disk.write(856_072, &[7])?;
+    let lines = b"put 01 02\nexplain 00\nput 01 02\nget 01\n";
+    let end = served(alloc, disk, lines)?;
+    check(&rt, &end, 5, b"ok\ntables 4 admitted 0 blocks 0\nok\n", 0);
+    Ok(())
+}
+
 // Four tables of three blocks each, with the keys 61 to 6c.
 fn twelve_blocks(alloc: Global) -> Result<Box<MemDisk>, Fail> {
     let mut lines = Vec::new(alloc);

@@ -49,12 +49,12 @@ Lines of serve. K, V, LO and HI are bytes in hex, and - is no bytes:
   flush           ok: what the log has is a table
   compact         ok: the live pairs alone are there, in new tables
   quit            bye
-A key has 1 to 1,024 bytes, a value 0 to 65,536, LO and HI 0 to 1,024; N is 0
+A key has 1 to 1,024 bytes, a value 0 to 1,048,576, LO and HI 0 to 1,024; N is 0
 to 1,000,000. As HI, - is the empty key: all pairs are range - ff N, where no
 key begins with ff. Words are parted by one space; verbs are in lower case.
 
 Refusals. Nothing has changed, but for device in a put, del, flush or compact:
-  bad 1           the line has over 140,000 bytes: make it shorter
+  bad 1           the line has over 2,100,000 bytes: make it shorter
   bad 2           no verb of these: look at the list above
   bad 3           too few words or too many: one space between, none at the end
   bad 4           a word is neither - nor whole bytes in hex: two digits a byte
@@ -86,7 +86,7 @@ needs its pages in one piece, and a store that is full may stay full until it
 grows. The file is only as long as what was written: where the file system keeps
 sparse files, take the largest number, 16777216 (64 GiB). On a block device, or
 where pages are really bounded, take 192 + 5 * 67 + 3.5 * the pages of the live
-pairs.";
+pairs, with 5 * 325 in the place of 5 * 67 where values have over 65536 bytes.";
 
 // Which tables get them, behind the help of `settings`.
 const NEW_TABLES: &str = "\

@@ -11,7 +11,7 @@ use Rattle.table_model.specs.Tables.{FilterBytes, Table}
 use Rattle.state_model.specs.View.{memory, entries_of, state_map}
 use Rattle.state_model.specs.Taken.{taken}
 use Rattle.state_model.specs.Merges.{NoRoom, placed, outputs_for}
-use Rattle.state_model.specs.Changes.{with_tables, flush_placed, flushed_with, flushed, logged, logged_then, written, compact_placed, compacted_with, compacted, live_entries}
+use Rattle.state_model.specs.Changes.{is_long, with_tables, flush_placed, flushed_with, flushed, logged, logged_then, written, compact_placed, compacted_with, compacted, live_entries}
 use Rattle.line_model.specs.Limits.{key_limit, value_limit, bound_limit, limit_of}
 use Rattle.line_model.specs.Requests.{Request, Put, Del, Get, Seek, Range, Count, Estimate, Explain, Flush, Compact, Quit, Bad}
 use Rattle.line_model.specs.Replies.{Reply, LongKey, LongValue, ManyTables, LastEpoch, Pairs, Memory, Device, Damaged, got, found}
@@ -46,7 +46,7 @@ key_plain : (key : Bytes) → PlainLimit (key_limit key)
 key_plain key = elim (length key == 0 || nat_lt 1024 (length key)) as (λ t. PlainLimit (cond t (Some (LongKey (length key))) None)) [ true ↦ refl | false ↦ tt ]
 
 value_plain : (value : Bytes) → PlainLimit (value_limit value)
-value_plain value = elim (nat_lt 65536 (length value)) as (λ t. PlainLimit (cond t (Some (LongValue (length value))) None)) [ true ↦ refl | false ↦ tt ]
+value_plain value = elim (nat_lt 1048576 (length value)) as (λ t. PlainLimit (cond t (Some (LongValue (length value))) None)) [ true ↦ refl | false ↦ tt ]
 
 bound_plain : (bound : Bytes) → PlainLimit (bound_limit bound)
 bound_plain bound = elim (nat_lt 1024 (length bound)) as (λ t. PlainLimit (cond t (Some (LongKey (length bound))) None)) [ true ↦ refl | false ↦ tt ]
@@ -93,11 +93,23 @@ logged_then_plain : (s : State) (entry : Entry) (done : Result State Reply) → 
 logged_then_plain s entry (Ok t) plain = plain
 logged_then_plain s entry (Err refusal) plain = plain
 
-written_plain : (filter_bytes : FilterBytes) (s : State) (entry : Entry) → PlainChange s (written filter_bytes s entry)
-written_plain filter_bytes s entry = elim (nat_le (need entry) (gap s.log)) as (λ t. PlainChange s (cond t (Ok (logged s entry)) (logged_then entry (flushed filter_bytes s)))) [
+short_plain : (filter_bytes : FilterBytes) (s : State) (entry : Entry) → PlainChange s (cond (nat_le (need entry) (gap s.log)) (Ok (logged s entry)) (logged_then entry (flushed filter_bytes s)))
+short_plain filter_bytes s entry = elim (nat_le (need entry) (gap s.log)) as (λ t. PlainChange s (cond t (Ok (logged s entry)) (logged_then entry (flushed filter_bytes s)))) [
   | true ↦ (refl, refl)
   | false ↦ logged_then_plain s entry (flushed filter_bytes s) (flushed_plain filter_bytes s)
 ]
+
+-- what keeps the device of a state with an entry in its log keeps that of the state
+over_plain : (s : State) (entry : Entry) (done : Result State Reply) → PlainChange (logged s entry) done → PlainChange s done
+over_plain s entry (Ok t) plain = plain
+over_plain s entry (Err refusal) plain = plain
+
+written_plain : (filter_bytes : FilterBytes) (s : State) (entry : Entry) → PlainChange s (written filter_bytes s entry)
+written_plain filter_bytes s entry = elim (is_long entry) as (λ long. PlainChange s
+    (cond long (flushed filter_bytes (logged s entry)) (cond (nat_le (need entry) (gap s.log)) (Ok (logged s entry)) (logged_then entry (flushed filter_bytes s))))) [
+      | true ↦ over_plain s entry (flushed filter_bytes (logged s entry)) (flushed_plain filter_bytes (logged s entry))
+      | false ↦ short_plain filter_bytes s entry
+    ]
 
 compact_placed_plain : (s : State) (done : Result (List Table) NoRoom) → PlainChange s (compact_placed s done)
 compact_placed_plain s (Ok made) = (refl, refl)
@@ -190,7 +202,7 @@ step_keeps_device filter_bytes s after request reply d = elim d as (λ _ new _. 
 pub slice_keeps_device : (filter_bytes : FilterBytes) (s after : State) (tended : Tended) → Tend Ever filter_bytes s tended after → KeepsDevice s after
 slice_keeps_device filter_bytes s after tended d = elim d as (λ _ new _. KeepsDevice s new) [
   | idle none chosen ↦ (refl, refl)
-  | works job later runs goes other ↦ (refl, refl)
+  | works job later runs goes other more ↦ (refl, refl)
   | installs job later runs goes done other ↦ (refl, refl)
   | last_epoch_reached job later runs goes done last ↦ (refl, refl)
   | no_room job later refusal runs goes refused ↦ (refl, refl)
@@ -207,7 +219,7 @@ IfRefused tended P = Unit {0}
 slice_left : (filter_bytes : FilterBytes) (s after : State) (tended : Tended) → Tend Ever filter_bytes s tended after → IfRefused tended (after.job ≡ None)
 slice_left filter_bytes s after tended d = elim d as (λ t new _. IfRefused t (new.job ≡ None)) [
   | idle none chosen ↦ tt
-  | works job later runs goes other ↦ tt
+  | works job later runs goes other more ↦ tt
   | installs job later runs goes done other ↦ tt
   | last_epoch_reached job later runs goes done last ↦ refl
   | no_room job later refusal runs goes refused ↦ refl

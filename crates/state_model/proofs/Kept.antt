@@ -14,7 +14,7 @@ use Rattle.table_model.specs.Tables.{FilterBytes, Table}
 use Rattle.state_model.specs.View.{memory, entries_of, oldest_first, state_map}
 use Rattle.state_model.specs.Taken.{taken}
 use Rattle.state_model.specs.Merges.{NoRoom, placed, outputs_for, has_value}
-use Rattle.state_model.specs.Changes.{with_tables, flush_placed, flushed_with, flushed, logged, logged_then, written, compact_placed, live_entries, compacted_with, compacted}
+use Rattle.state_model.specs.Changes.{with_tables, flush_placed, flushed_with, flushed, is_long, logged, logged_then, written, compact_placed, live_entries, compacted_with, compacted}
 use Rattle.line_model.specs.Replies.{Reply, ManyTables, LastEpoch}
 use Rattle.state_model.specs.Laws.{is_done}
 use Rattle.state_model.proofs.SameMaps.{same_map}
@@ -80,11 +80,23 @@ logged_then_makes : (map : Map) (entry : Entry) (done : Result State Reply) → 
 logged_then_makes map entry (Ok s) same = logged_changes s entry ∙ ap (λ (m : Map). changed m entry) same
 logged_then_makes map entry (Err refusal) same = same
 
-pub written_done : (filter_bytes : FilterBytes) (s : State) (entry : Entry) → IfDone (Makes (state_map s) entry) (written filter_bytes s entry)
-written_done filter_bytes s entry = elim (nat_le (need entry) (gap s.log)) as (λ t. IfDone (Makes (state_map s) entry) (cond t (Ok (logged s entry)) (logged_then entry (flushed filter_bytes s)))) [
+-- a flush over the memory entries keeps the map of the state with the entry
+flushed_over_makes : (s : State) (entry : Entry) (done : Result State Reply) → IfDone (KeepsMap (logged s entry)) done → IfDone (Makes (state_map s) entry) done
+flushed_over_makes s entry (Ok t) same = same ∙ logged_changes s entry
+flushed_over_makes s entry (Err refusal) same = same
+
+short_done : (filter_bytes : FilterBytes) (s : State) (entry : Entry) → IfDone (Makes (state_map s) entry) (cond (nat_le (need entry) (gap s.log)) (Ok (logged s entry)) (logged_then entry (flushed filter_bytes s)))
+short_done filter_bytes s entry = elim (nat_le (need entry) (gap s.log)) as (λ t. IfDone (Makes (state_map s) entry) (cond t (Ok (logged s entry)) (logged_then entry (flushed filter_bytes s)))) [
   | true ↦ logged_changes s entry
   | false ↦ logged_then_makes (state_map s) entry (flushed filter_bytes s) (flushed_done filter_bytes s)
 ]
+
+pub written_done : (filter_bytes : FilterBytes) (s : State) (entry : Entry) → IfDone (Makes (state_map s) entry) (written filter_bytes s entry)
+written_done filter_bytes s entry = elim (is_long entry) as (λ long. IfDone (Makes (state_map s) entry)
+    (cond long (flushed filter_bytes (logged s entry)) (cond (nat_le (need entry) (gap s.log)) (Ok (logged s entry)) (logged_then entry (flushed filter_bytes s))))) [
+      | true ↦ flushed_over_makes s entry (flushed filter_bytes (logged s entry)) (flushed_done filter_bytes (logged s entry))
+      | false ↦ short_done filter_bytes s entry
+    ]
 
 pub written_makes : (filter_bytes : FilterBytes) (s t : State) (entry : Entry) → written filter_bytes s entry ≡ Ok t → state_map t ≡ changed (state_map s) entry
 written_makes filter_bytes s t entry e = if_done (Makes (state_map s) entry) (written filter_bytes s entry) t (written_done filter_bytes s entry) e

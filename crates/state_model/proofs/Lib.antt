@@ -2,6 +2,7 @@ pub mod SameMaps
 pub mod Sayings
 pub mod Views
 pub mod Outputs
+pub mod Overs
 pub mod SameRoom
 pub mod Wholes
 pub mod Plays

@@ -54,8 +54,8 @@ key_breaks key wrong = ap (λ (t : Bool). cond t (Some (LongKey (length key))) N
 key_holds : (key : Bytes) → KeyFits key → key_limit key ≡ None
 key_holds key is = ap (λ (t : Bool). cond t (Some (LongKey (length key))) None) (key_false (length key) 1024 is.0 is.1)
 
-value_breaks : (value : Bytes) → 65536 < length value → value_limit value ≡ Some (LongValue (length value))
-value_breaks value wide = ap (λ (t : Bool). cond t (Some (LongValue (length value))) None) (lt_true 65536 (length value) wide)
+value_breaks : (value : Bytes) → 1048576 < length value → value_limit value ≡ Some (LongValue (length value))
+value_breaks value wide = ap (λ (t : Bool). cond t (Some (LongValue (length value))) None) (lt_true 1048576 (length value) wide)
 
 bound_breaks : (bound : Bytes) → 1024 < length bound → bound_limit bound ≡ Some (LongKey (length bound))
 bound_breaks bound wide = ap (λ (t : Bool). cond t (Some (LongKey (length bound))) None) (lt_true 1024 (length bound) wide)
@@ -73,10 +73,10 @@ key_kept key e =
     let so = if_none (length key == 0 || nat_lt 1024 (length key)) (LongKey (length key)) e in
     (some_of (length key) 1024 so, few_of (length key) 1024 so)
 
-value_broken : (value : Bytes) (reply : Reply) → value_limit value ≡ Some reply → (65536 < length value) × (reply ≡ LongValue (length value))
+value_broken : (value : Bytes) (reply : Reply) → value_limit value ≡ Some reply → (1048576 < length value) × (reply ≡ LongValue (length value))
 value_broken value reply e =
-    let so = if_some (nat_lt 65536 (length value)) (LongValue (length value)) reply e in
-    (lt_of 65536 (length value) so.0, so.1)
+    let so = if_some (nat_lt 1048576 (length value)) (LongValue (length value)) reply e in
+    (lt_of 1048576 (length value) so.0, so.1)
 
 bound_broken : (bound : Bytes) (reply : Reply) → bound_limit bound ≡ Some reply → (1024 < length bound) × (reply ≡ LongKey (length bound))
 bound_broken bound reply e =

@@ -28,7 +28,7 @@ key_limited : (key : Bytes) → IsLimit (key_limit key)
 key_limited key = elim (length key == 0 || nat_lt 1024 (length key)) as (λ t. IsLimit (cond t (Some (LongKey (length key))) None)) [ true ↦ refl | false ↦ tt ]
 
 value_limited : (value : Bytes) → IsLimit (value_limit value)
-value_limited value = elim (nat_lt 65536 (length value)) as (λ t. IsLimit (cond t (Some (LongValue (length value))) None)) [ true ↦ refl | false ↦ tt ]
+value_limited value = elim (nat_lt 1048576 (length value)) as (λ t. IsLimit (cond t (Some (LongValue (length value))) None)) [ true ↦ refl | false ↦ tt ]
 
 first_limited : (a b : Option Reply) → IsLimit a → IsLimit b → IsLimit (option_or a b)
 first_limited (Some reply) b limited other = limited

@@ -9,6 +9,7 @@ use Rattle.state_model.specs.View.{memory}
 use Rattle.state_model.specs.Merges.{NoRoom}
 use Rattle.state_model.specs.Changes.{flush_placed, flushed, flushed_with, with_tables}
 use Rattle.state_model.specs.Refusals.{flush_places}
+use Rattle.line_model.specs.Requests.{Flush}
 use Rattle.line_model.specs.Replies.{ManyTables, LastEpoch}
 use Rattle.state_model.proofs.Reasons.{flush_tables, flush_few}
 
@@ -26,7 +27,7 @@ flushed_few : (filter_bytes : FilterBytes) (s : State) (entries : List Entry) �
 flushed_few filter_bytes s [] e few wrong = cc
 flushed_few filter_bytes s (entry ∷ more) e few wrong =
     let some : memory s ≢ [] = λ none. not_none (sym e ∙ none) in
-    placed_few s (flush_places filter_bytes s) (sym (flush_few filter_bytes s some few) ∙ ap (flushed_with filter_bytes s) e ∙ wrong)
+    placed_few s (flush_places filter_bytes s Flush) (sym (flush_few filter_bytes s some few) ∙ ap (flushed_with filter_bytes s) e ∙ wrong)
   where
     not_none : entry ∷ more ≡ [] → ⊥
     not_none e = cc

@@ -97,7 +97,7 @@ words_of_bytes (verb ∷ words) =
     ask (bytes_eq verb (codes "put")) (two_of Put words) (two_words Put words (λ a b in_a in_b. (in_a, in_b))) from_del
 
 pub lines_of_bytes : (line : Bytes) → SpeaksBytes (request_of line)
-lines_of_bytes line = either (nat_le (length line) 140000) (asked_by (slice_split (λ b. b == 32) line)) (Bad 1) (words_of_bytes (slice_split (λ b. b == 32) line)) tt
+lines_of_bytes line = either (nat_le (length line) 2100000) (asked_by (slice_split (λ b. b == 32) line)) (Bad 1) (words_of_bytes (slice_split (λ b. b == 32) line)) tt
 
 pub speaking_asks : (request : Request) → SpeaksBytes request → AsksOfBytes request
 speaking_asks (Put key value) are = are

@@ -12,7 +12,7 @@ use Rattle.state_model.specs.View.{memory, entries_of, state_map}
 use Rattle.state_model.specs.Taken.{taken}
 use Rattle.state_model.specs.Merges.{NoRoom, placed, outputs_for}
 use Rattle.state_model.specs.Causes.{Why}
-use Rattle.state_model.specs.Changes.{with_tables, flush_placed, flushed_with, flushed, logged, logged_then, written, compact_placed, live_entries, compacted_with, compacted}
+use Rattle.state_model.specs.Changes.{is_long, with_tables, flush_placed, flushed_with, flushed, logged, logged_then, written, compact_placed, live_entries, compacted_with, compacted}
 use Rattle.line_model.specs.Limits.{key_limit, value_limit, bound_limit, limit_of}
 use Rattle.line_model.specs.Requests.{Request, Put, Del, Get, Seek, Range, Count, Estimate, Explain, Flush, Compact, Quit, Bad, request_of}
 use Rattle.line_model.specs.Replies.{Reply, Done, Value, Missing, At, Pairs, End, Counted, About, Explained, Bye, BadLine, LongKey, LongValue, ManyTables, LastEpoch, Full, Memory, Device, Damaged, text_of, got, found}
@@ -43,7 +43,7 @@ key_calm : (key : Bytes) → CalmLimit (key_limit key)
 key_calm key = elim (length key == 0 || nat_lt 1024 (length key)) as (λ t. CalmLimit (cond t (Some (LongKey (length key))) None)) [ true ↦ refl | false ↦ tt ]
 
 value_calm : (value : Bytes) → CalmLimit (value_limit value)
-value_calm value = elim (nat_lt 65536 (length value)) as (λ t. CalmLimit (cond t (Some (LongValue (length value))) None)) [ true ↦ refl | false ↦ tt ]
+value_calm value = elim (nat_lt 1048576 (length value)) as (λ t. CalmLimit (cond t (Some (LongValue (length value))) None)) [ true ↦ refl | false ↦ tt ]
 
 bound_calm : (bound : Bytes) → CalmLimit (bound_limit bound)
 bound_calm bound = elim (nat_lt 1024 (length bound)) as (λ t. CalmLimit (cond t (Some (LongKey (length bound))) None)) [ true ↦ refl | false ↦ tt ]
@@ -73,11 +73,18 @@ logged_then_calm : (entry : Entry) (done : Result State Reply) → CalmResult do
 logged_then_calm entry (Ok s) none = none
 logged_then_calm entry (Err refusal) calm = calm
 
-written_calm : (filter_bytes : FilterBytes) (s : State) (entry : Entry) → s.job ≡ None → CalmResult (written filter_bytes s entry)
-written_calm filter_bytes s entry none = elim (nat_le (need entry) (gap s.log)) as (λ t. CalmResult (cond t (Ok (logged s entry)) (logged_then entry (flushed filter_bytes s)))) [
+short_calm : (filter_bytes : FilterBytes) (s : State) (entry : Entry) → s.job ≡ None → CalmResult (cond (nat_le (need entry) (gap s.log)) (Ok (logged s entry)) (logged_then entry (flushed filter_bytes s)))
+short_calm filter_bytes s entry none = elim (nat_le (need entry) (gap s.log)) as (λ t. CalmResult (cond t (Ok (logged s entry)) (logged_then entry (flushed filter_bytes s)))) [
   | true ↦ none
   | false ↦ logged_then_calm entry (flushed filter_bytes s) (flushed_calm filter_bytes s none)
 ]
+
+written_calm : (filter_bytes : FilterBytes) (s : State) (entry : Entry) → s.job ≡ None → CalmResult (written filter_bytes s entry)
+written_calm filter_bytes s entry none = elim (is_long entry) as (λ long. CalmResult
+    (cond long (flushed filter_bytes (logged s entry)) (cond (nat_le (need entry) (gap s.log)) (Ok (logged s entry)) (logged_then entry (flushed filter_bytes s))))) [
+      | true ↦ flushed_calm filter_bytes (logged s entry) none
+      | false ↦ short_calm filter_bytes s entry none
+    ]
 
 compact_placed_calm : (s : State) (done : Result (List Table) NoRoom) → CalmResult (compact_placed s done)
 compact_placed_calm s (Ok made) = refl

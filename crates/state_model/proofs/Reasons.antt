@@ -1,5 +1,5 @@
 -- The causes of a refusal: what has one is refused by it, and what is refused has one.
-use Rattle.std.proofs.Common.{◌≡◌, ◌≢◌, ℕ, ◌≤◌, ◌<◌, List, [], ◌∷◌, ◌++◌, refl, ap, ◌∙◌, Bool, true, false, cond, arith}
+use Rattle.std.proofs.Common.{◌≡◌, ◌≢◌, ◌⊎◌, inl, inr, ℕ, ◌≤◌, ◌<◌, List, [], ◌∷◌, ◌++◌, refl, sym, ap, ◌∙◌, subst, Bool, true, false, cond, arith}
 use Rattle.std.specs.Prelude.{Option, Some, None, Result, Ok, Err, nat_le, length, ◌==◌, ◌+◌}
 use Rattle.key_base.specs.Limits.{last_epoch, max_tables}
 use Rattle.map_model.specs.SortedMap.{Bytes}
@@ -9,12 +9,13 @@ use Rattle.table_model.specs.Tables.{FilterBytes, Table}
 use Rattle.state_model.specs.View.{memory, entries_of}
 use Rattle.state_model.specs.Taken.{taken}
 use Rattle.state_model.specs.Merges.{NoRoom, placed}
-use Rattle.state_model.specs.Changes.{with_tables, flush_placed, flushed_with, flushed, logged, logged_then, written, compact_placed, compacted_with, compacted}
+use Rattle.state_model.specs.Changes.{with_tables, flush_placed, flushed_with, flushed, is_long, logged, logged_then, written, compact_placed, compacted_with, compacted}
 use Rattle.line_model.specs.Requests.{Request, Put, Del, Get, Seek, Range, Count, Estimate, Explain, Flush, Compact, Quit, Bad}
 use Rattle.line_model.specs.Replies.{Reply, ManyTables, LastEpoch, Full, got, found}
 use Rattle.state_model.specs.Steps.{Answer, answer, answer_within, done_or_refused, unless_limit}
 use Rattle.line_model.specs.Limits.{limit_of}
-use Rattle.state_model.specs.Refusals.{is_refusal, FlushIsDue, CompactionIsDue, flush_places, compaction_places, Refused, by_limit, flush_by_tables, flush_by_room, flush_by_epoch, compaction_by_epoch, compaction_by_room}
+use Rattle.state_model.specs.Refusals.{is_refusal, FlushIsDue, IsWide, CompactionIsDue, flushed_entries, flush_places, compaction_places, Refused, by_limit, flush_by_tables, flush_by_room, flush_by_epoch, compaction_by_epoch, compaction_by_room}
+use Rattle.state_model.proofs.Overs.{flushed_over, over_some}
 
 -- ---- tests
 
@@ -49,26 +50,36 @@ some_flushed : (filter_bytes : FilterBytes) (s : State) (entries : List Entry) �
 some_flushed filter_bytes s [] some = absurd (some refl)
 some_flushed filter_bytes s (entry ∷ more) some = refl
 
-pub flush_tables : (filter_bytes : FilterBytes) (s : State) → memory s ≢ [] → max_tables ≤ length s.tables → flushed filter_bytes s ≡ Err ManyTables
-flush_tables filter_bytes s some many =
-    some_flushed filter_bytes s (memory s) some
-    ∙ ap (λ (t : Bool). cond t (Err ManyTables) (flush_placed s (flush_places filter_bytes s))) (le_true max_tables (length s.tables) many)
+abbrev places : FilterBytes → State → List Entry → Result (List Table) NoRoom
+places filter_bytes s entries = placed filter_bytes s.settings s.pages (taken s) 0 (entries ∷ [])
 
-pub flush_few : (filter_bytes : FilterBytes) (s : State) → memory s ≢ [] → length s.tables < max_tables → flushed filter_bytes s ≡ flush_placed s (flush_places filter_bytes s)
-flush_few filter_bytes s some few =
-    some_flushed filter_bytes s (memory s) some
-    ∙ ap (λ (t : Bool). cond t (Err ManyTables) (flush_placed s (flush_places filter_bytes s))) (le_false max_tables (length s.tables) few)
+tables_refused : (filter_bytes : FilterBytes) (s : State) (entries : List Entry) → entries ≢ [] → max_tables ≤ length s.tables → flushed_with filter_bytes s entries ≡ Err ManyTables
+tables_refused filter_bytes s entries some many =
+    some_flushed filter_bytes s entries some
+    ∙ ap (λ (t : Bool). cond t (Err ManyTables) (flush_placed s (places filter_bytes s entries))) (le_true max_tables (length s.tables) many)
+
+few_placed : (filter_bytes : FilterBytes) (s : State) (entries : List Entry) → entries ≢ [] → length s.tables < max_tables
+    → flushed_with filter_bytes s entries ≡ flush_placed s (places filter_bytes s entries)
+few_placed filter_bytes s entries some few =
+    some_flushed filter_bytes s entries some
+    ∙ ap (λ (t : Bool). cond t (Err ManyTables) (flush_placed s (places filter_bytes s entries))) (le_false max_tables (length s.tables) few)
+
+pub flush_tables : (filter_bytes : FilterBytes) (s : State) → memory s ≢ [] → max_tables ≤ length s.tables → flushed filter_bytes s ≡ Err ManyTables
+flush_tables filter_bytes s some many = tables_refused filter_bytes s (memory s) some many
+
+pub flush_few : (filter_bytes : FilterBytes) (s : State) → memory s ≢ [] → length s.tables < max_tables → flushed filter_bytes s ≡ flush_placed s (flush_places filter_bytes s Flush)
+flush_few filter_bytes s some few = few_placed filter_bytes s (memory s) some few
 
 with_tables_last : (s : State) (tables : List Table) → s.epoch ≡ last_epoch → with_tables s tables ≡ Err LastEpoch
 with_tables_last s tables last = ap (λ (t : Bool). cond t (Err LastEpoch) (Ok (record s { epoch = s.epoch + 1; log = []; tables = tables }))) (eq_true s.epoch last_epoch last)
 
-flush_room : (filter_bytes : FilterBytes) (s : State) (refusal : NoRoom) → memory s ≢ [] → length s.tables < max_tables → flush_places filter_bytes s ≡ Err refusal
-    → flushed filter_bytes s ≡ Err (Full refusal.need refusal.gap)
-flush_room filter_bytes s refusal some few none = flush_few filter_bytes s some few ∙ ap (flush_placed s) none
+flush_room : (filter_bytes : FilterBytes) (s : State) (entries : List Entry) (refusal : NoRoom) → entries ≢ [] → length s.tables < max_tables → places filter_bytes s entries ≡ Err refusal
+    → flushed_with filter_bytes s entries ≡ Err (Full refusal.need refusal.gap)
+flush_room filter_bytes s entries refusal some few none = few_placed filter_bytes s entries some few ∙ ap (flush_placed s) none
 
-flush_epoch : (filter_bytes : FilterBytes) (s : State) (made : List Table) → memory s ≢ [] → length s.tables < max_tables → flush_places filter_bytes s ≡ Ok made → s.epoch ≡ last_epoch
-    → flushed filter_bytes s ≡ Err LastEpoch
-flush_epoch filter_bytes s made some few placed_so last = flush_few filter_bytes s some few ∙ ap (flush_placed s) placed_so ∙ with_tables_last s (made ++ s.tables) last
+flush_epoch : (filter_bytes : FilterBytes) (s : State) (entries : List Entry) (made : List Table) → entries ≢ [] → length s.tables < max_tables → places filter_bytes s entries ≡ Ok made
+    → s.epoch ≡ last_epoch → flushed_with filter_bytes s entries ≡ Err LastEpoch
+flush_epoch filter_bytes s entries made some few placed_so last = few_placed filter_bytes s entries some few ∙ ap (flush_placed s) placed_so ∙ with_tables_last s (made ++ s.tables) last
 
 some_compacted : (filter_bytes : FilterBytes) (s : State) (entries : List Entry) → entries ≢ []
     → compacted_with filter_bytes s entries ≡ cond (s.epoch == last_epoch) (Err LastEpoch) (compact_placed s (compaction_places filter_bytes s))
@@ -83,13 +94,41 @@ compact_at filter_bytes s t some e =
 
 -- ---- what has a cause
 
-written_refused : (filter_bytes : FilterBytes) (s : State) (entry : Entry) (reply : Reply) → gap s.log < need entry → flushed filter_bytes s ≡ Err reply → written filter_bytes s entry ≡ Err reply
-written_refused filter_bytes s entry reply wide refused =
+-- an entry that is written as the log takes it
+abbrev short_written : FilterBytes → State → Entry → Result State Reply
+short_written filter_bytes s entry = cond (nat_le (need entry) (gap s.log)) (Ok (logged s entry)) (logged_then entry (flushed filter_bytes s))
+
+short_refused : (filter_bytes : FilterBytes) (s : State) (entry : Entry) (reply : Reply) → gap s.log < need entry → flushed filter_bytes s ≡ Err reply → short_written filter_bytes s entry ≡ Err reply
+short_refused filter_bytes s entry reply wide refused =
     ap (λ (t : Bool). cond t (Ok (logged s entry)) (logged_then entry (flushed filter_bytes s))) (le_false (need entry) (gap s.log) wide) ∙ ap (logged_then entry) refused
 
--- where a flush is due, there are memory entries
-due_some : (s : State) (request : Request) → FlushIsDue s request → memory s ≢ []
-due_some s (Put key value) due = due.1
+-- what is due of an entry that is not long is due for its width
+wide_of : (s : State) (entry : Entry) → is_long entry ≡ false → (is_long entry ≡ true) ⊎ IsWide s entry → IsWide s entry
+wide_of s entry short (inl long) = absurd (not_both (sym short ∙ long))
+  where
+    not_both : false ≡ true → ⊥
+    not_both e = cc
+wide_of s entry short (inr wide) = wide
+
+-- a put is refused as the flush of its entries is
+put_refused : (filter_bytes : FilterBytes) (s : State) (entry : Entry) (reply : Reply) → (is_long entry ≡ true) ⊎ IsWide s entry
+    → flushed_with filter_bytes s (cond (is_long entry) (memory (logged s entry)) (memory s)) ≡ Err reply → written filter_bytes s entry ≡ Err reply
+put_refused filter_bytes s entry reply due refused = elim (is_long entry) as (λ long. is_long entry ≡ long
+    → flushed_with filter_bytes s (cond long (memory (logged s entry)) (memory s)) ≡ Err reply
+    → cond long (flushed filter_bytes (logged s entry)) (short_written filter_bytes s entry) ≡ Err reply) [
+      | true ↦ λ _ so. flushed_over filter_bytes s entry ∙ so
+      | false ↦ λ short so. short_refused filter_bytes s entry reply (wide_of s entry short due).0 so
+    ] refl refused
+
+put_some : (s : State) (entry : Entry) → (is_long entry ≡ true) ⊎ IsWide s entry → cond (is_long entry) (memory (logged s entry)) (memory s) ≢ []
+put_some s entry due = elim (is_long entry) as (λ long. is_long entry ≡ long → cond long (memory (logged s entry)) (memory s) ≢ []) [
+  | true ↦ λ _. over_some s entry
+  | false ↦ λ short. (wide_of s entry short due).1
+] refl
+
+-- where a flush is due, there are entries to flush
+due_some : (s : State) (request : Request) → FlushIsDue s request → flushed_entries s request ≢ []
+due_some s (Put key value) due = put_some s (put_entry key value) due
 due_some s (Del key) due = due.1
 due_some s Flush due = due
 due_some s (Get key) due = absurd due
@@ -106,9 +145,10 @@ first_of_changed : (s : State) (done : Result State Reply) (reply : Reply) → d
 first_of_changed s done reply e = ap (λ (d : Result State Reply). (done_or_refused s d).0) e
 
 -- where a flush is due and refused, the line is answered by its refusal
-due_refused : (filter_bytes : FilterBytes) (s : State) (request : Request) (reply : Reply) → FlushIsDue s request → flushed filter_bytes s ≡ Err reply → (answer_within filter_bytes s request).0 ≡ reply
-due_refused filter_bytes s (Put key value) reply due refused = first_of_changed s (written filter_bytes s (put_entry key value)) reply (written_refused filter_bytes s (put_entry key value) reply due.0 refused)
-due_refused filter_bytes s (Del key) reply due refused = first_of_changed s (written filter_bytes s (del_entry key)) reply (written_refused filter_bytes s (del_entry key) reply due.0 refused)
+due_refused : (filter_bytes : FilterBytes) (s : State) (request : Request) (reply : Reply) → FlushIsDue s request → flushed_with filter_bytes s (flushed_entries s request) ≡ Err reply
+    → (answer_within filter_bytes s request).0 ≡ reply
+due_refused filter_bytes s (Put key value) reply due refused = first_of_changed s (written filter_bytes s (put_entry key value)) reply (put_refused filter_bytes s (put_entry key value) reply due refused)
+due_refused filter_bytes s (Del key) reply due refused = first_of_changed s (written filter_bytes s (del_entry key)) reply (short_refused filter_bytes s (del_entry key) reply due.0 refused)
 due_refused filter_bytes s Flush reply due refused = first_of_changed s (flushed filter_bytes s) reply refused
 due_refused filter_bytes s (Get key) reply due refused = absurd due
 due_refused filter_bytes s (Seek lo hi) reply due refused = absurd due
@@ -143,11 +183,11 @@ at_limit filter_bytes s request limit e = ap (λ (l : Option Reply). (unless_lim
 pub gives_reply : (filter_bytes : FilterBytes) (s : State) (request : Request) (reply : Reply) → Refused filter_bytes s request reply → (answer filter_bytes s request).0 ≡ reply
 gives_reply filter_bytes s request reply (by_limit _ e) = at_limit filter_bytes s request (Some reply) e
 gives_reply filter_bytes s request _ (flush_by_tables within due many) =
-    at_limit filter_bytes s request None within ∙ due_refused filter_bytes s request ManyTables due (flush_tables filter_bytes s (due_some s request due) many)
+    at_limit filter_bytes s request None within ∙ due_refused filter_bytes s request ManyTables due (tables_refused filter_bytes s (flushed_entries s request) (due_some s request due) many)
 gives_reply filter_bytes s request _ (flush_by_room refusal within due few none) =
-    at_limit filter_bytes s request None within ∙ due_refused filter_bytes s request (Full refusal.need refusal.gap) due (flush_room filter_bytes s refusal (due_some s request due) few none)
+    at_limit filter_bytes s request None within ∙ due_refused filter_bytes s request (Full refusal.need refusal.gap) due (flush_room filter_bytes s (flushed_entries s request) refusal (due_some s request due) few none)
 gives_reply filter_bytes s request _ (flush_by_epoch made within due few so last) =
-    at_limit filter_bytes s request None within ∙ due_refused filter_bytes s request LastEpoch due (flush_epoch filter_bytes s made (due_some s request due) few so last)
+    at_limit filter_bytes s request None within ∙ due_refused filter_bytes s request LastEpoch due (flush_epoch filter_bytes s (flushed_entries s request) made (due_some s request due) few so last)
 gives_reply filter_bytes s request _ (compaction_by_epoch within due last) =
     at_limit filter_bytes s request None within ∙ compact_refused filter_bytes s request LastEpoch due (λ some. compact_at filter_bytes s true some (eq_true s.epoch last_epoch last))
 gives_reply filter_bytes s request _ (compaction_by_room refusal within due more none) =
@@ -162,7 +202,7 @@ HasCause filter_bytes s request (Ok t) = Unit {0}
 HasCause filter_bytes s request (Err reply) = Refused filter_bytes s request reply
 
 flush_placed_cause : (filter_bytes : FilterBytes) (s : State) (request : Request) (done : Result (List Table) NoRoom)
-    → limit_of request ≡ None → FlushIsDue s request → length s.tables < max_tables → flush_places filter_bytes s ≡ done → HasCause filter_bytes s request (flush_placed s done)
+    → limit_of request ≡ None → FlushIsDue s request → length s.tables < max_tables → flush_places filter_bytes s request ≡ done → HasCause filter_bytes s request (flush_placed s done)
 flush_placed_cause filter_bytes s request (Err refusal) within due few e = flush_by_room refusal within due few e
 flush_placed_cause filter_bytes s request (Ok made) within due few e =
     elim (s.epoch == last_epoch) as (λ t. (s.epoch == last_epoch) ≡ t → HasCause filter_bytes s request (cond t (Err LastEpoch) (Ok (record s { epoch = s.epoch + 1; log = []; tables = made ++ s.tables })))) [
@@ -170,31 +210,41 @@ flush_placed_cause filter_bytes s request (Ok made) within due few e =
       | false ↦ λ more. tt
     ] refl
 
-flushed_with_cause : (filter_bytes : FilterBytes) (s : State) (request : Request) (entries : List Entry) → memory s ≡ entries
-    → limit_of request ≡ None → (memory s ≢ [] → FlushIsDue s request) → HasCause filter_bytes s request (flushed_with filter_bytes s entries)
+flushed_with_cause : (filter_bytes : FilterBytes) (s : State) (request : Request) (entries : List Entry) → flushed_entries s request ≡ entries
+    → limit_of request ≡ None → (flushed_entries s request ≢ [] → FlushIsDue s request) → HasCause filter_bytes s request (flushed_with filter_bytes s entries)
 flushed_with_cause filter_bytes s request [] e within due = tt
 flushed_with_cause filter_bytes s request (entry ∷ more) e within due =
-    let some : memory s ≢ [] = λ none. cc in
-    let places = ap (λ (l : List Entry). placed filter_bytes s.settings s.pages (taken s) 0 (l ∷ [])) e in
+    let some : flushed_entries s request ≢ [] = λ none. cc in
+    let so = ap (places filter_bytes s) e in
     elim (nat_le max_tables (length s.tables)) as (λ t. nat_le max_tables (length s.tables) ≡ t
-    → HasCause filter_bytes s request (cond t (Err ManyTables) (flush_placed s (placed filter_bytes s.settings s.pages (taken s) 0 ((entry ∷ more) ∷ []))))) [
+    → HasCause filter_bytes s request (cond t (Err ManyTables) (flush_placed s (places filter_bytes s (entry ∷ more))))) [
       | true ↦ λ many. flush_by_tables within (due some) (le_of max_tables (length s.tables) many)
-      | false ↦ λ few. flush_placed_cause filter_bytes s request (placed filter_bytes s.settings s.pages (taken s) 0 ((entry ∷ more) ∷ [])) within (due some) (not_le max_tables (length s.tables) few) places
+      | false ↦ λ few. flush_placed_cause filter_bytes s request (places filter_bytes s (entry ∷ more)) within (due some) (not_le max_tables (length s.tables) few) so
     ] refl
-
-flushed_cause : (filter_bytes : FilterBytes) (s : State) (request : Request) → limit_of request ≡ None → (memory s ≢ [] → FlushIsDue s request) → HasCause filter_bytes s request (flushed filter_bytes s)
-flushed_cause filter_bytes s request within due = flushed_with_cause filter_bytes s request (memory s) refl within due
 
 logged_then_cause : (filter_bytes : FilterBytes) (s : State) (request : Request) (entry : Entry) (done : Result State Reply) → HasCause filter_bytes s request done → HasCause filter_bytes s request (logged_then entry done)
 logged_then_cause filter_bytes s request entry (Ok t) cause = tt
 logged_then_cause filter_bytes s request entry (Err reply) cause = cause
 
-written_cause : (filter_bytes : FilterBytes) (s : State) (request : Request) (entry : Entry) → limit_of request ≡ None
-    → (gap s.log < need entry → memory s ≢ [] → FlushIsDue s request) → HasCause filter_bytes s request (written filter_bytes s entry)
-written_cause filter_bytes s request entry within due =
+short_cause : (filter_bytes : FilterBytes) (s : State) (request : Request) (entry : Entry) → flushed_entries s request ≡ memory s → limit_of request ≡ None
+    → (IsWide s entry → FlushIsDue s request) → HasCause filter_bytes s request (short_written filter_bytes s entry)
+short_cause filter_bytes s request entry e within due =
     elim (nat_le (need entry) (gap s.log)) as (λ t. nat_le (need entry) (gap s.log) ≡ t → HasCause filter_bytes s request (cond t (Ok (logged s entry)) (logged_then entry (flushed filter_bytes s)))) [
       | true ↦ λ fits. tt
-      | false ↦ λ wide. logged_then_cause filter_bytes s request entry (flushed filter_bytes s) (flushed_cause filter_bytes s request within (due (not_le (need entry) (gap s.log) wide)))
+      | false ↦ λ wide. logged_then_cause filter_bytes s request entry (flushed filter_bytes s)
+          (flushed_with_cause filter_bytes s request (memory s) e within (λ some. due (not_le (need entry) (gap s.log) wide, subst (λ (l : List Entry). l ≢ []) e some)))
+    ] refl
+
+put_cause : (filter_bytes : FilterBytes) (s : State) (key value : Bytes) → limit_of (Put key value) ≡ None
+    → HasCause filter_bytes s (Put key value) (written filter_bytes s (put_entry key value))
+put_cause filter_bytes s key value within =
+    let entry = put_entry key value in
+    let over = memory (logged s entry) in
+    elim (is_long entry) as (λ long. is_long entry ≡ long
+    → HasCause filter_bytes s (Put key value) (cond long (flushed filter_bytes (logged s entry)) (short_written filter_bytes s entry))) [
+      | true ↦ λ long. subst (HasCause filter_bytes s (Put key value)) (sym (flushed_over filter_bytes s entry))
+          (flushed_with_cause filter_bytes s (Put key value) over (ap (λ (b : Bool). cond b over (memory s)) long) within (λ _. inl long))
+      | false ↦ λ short. short_cause filter_bytes s (Put key value) entry (ap (λ (b : Bool). cond b over (memory s)) short) within (λ wide. inr wide)
     ] refl
 
 compact_placed_cause : (filter_bytes : FilterBytes) (s : State) (done : Result (List Table) NoRoom) → entries_of s ≢ [] → s.epoch ≢ last_epoch → compaction_places filter_bytes s ≡ done
@@ -235,16 +285,16 @@ found_explained filter_bytes s request None e = cc
 
 within_explained : (filter_bytes : FilterBytes) (s : State) (request : Request) → limit_of request ≡ None → Explains filter_bytes s request (answer_within filter_bytes s request)
 within_explained filter_bytes s (Put key value) within =
-    changed_explained filter_bytes s s (Put key value) (written filter_bytes s (put_entry key value)) (written_cause filter_bytes s (Put key value) (put_entry key value) within (λ wide some. (wide, some)))
+    changed_explained filter_bytes s s (Put key value) (written filter_bytes s (put_entry key value)) (put_cause filter_bytes s key value within)
 within_explained filter_bytes s (Del key) within =
-    changed_explained filter_bytes s s (Del key) (written filter_bytes s (del_entry key)) (written_cause filter_bytes s (Del key) (del_entry key) within (λ wide some. (wide, some)))
+    changed_explained filter_bytes s s (Del key) (written filter_bytes s (del_entry key)) (short_cause filter_bytes s (Del key) (del_entry key) refl within (λ wide. wide))
 within_explained filter_bytes s (Get key) within = got_explained filter_bytes s (Get key) _
 within_explained filter_bytes s (Seek lo hi) within = found_explained filter_bytes s (Seek lo hi) _
 within_explained filter_bytes s (Range lo hi n) within = λ e. cc
 within_explained filter_bytes s (Count lo hi) within = λ e. cc
 within_explained filter_bytes s (Estimate lo hi) within = λ e. cc
 within_explained filter_bytes s (Explain key) within = λ e. cc
-within_explained filter_bytes s Flush within = changed_explained filter_bytes s s Flush (flushed filter_bytes s) (flushed_cause filter_bytes s Flush within (λ some. some))
+within_explained filter_bytes s Flush within = changed_explained filter_bytes s s Flush (flushed filter_bytes s) (flushed_with_cause filter_bytes s Flush (memory s) refl within (λ some. some))
 within_explained filter_bytes s Compact within = changed_explained filter_bytes s (without_job s) Compact (compacted filter_bytes s) (compacted_with_cause filter_bytes s (entries_of s) refl)
 within_explained filter_bytes s Quit within = λ e. cc
 within_explained filter_bytes s (Bad code) within = λ e. cc

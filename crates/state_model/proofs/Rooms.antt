@@ -5,13 +5,13 @@ use Rattle.filter_api.specs.declared.settings.Settings.{Settings}
 use Rattle.entry_model.specs.Entries.{Entry}
 use Rattle.state_model.specs.State.{State}
 use Rattle.table_model.specs.Tables.{FilterBytes, Table, table_of, table_pages}
-use Rattle.state_model.specs.View.{memory}
 use Rattle.extent_model.specs.Extents.{Extent}
 use Rattle.extent_model.specs.Gaps.{first_gap, largest_gap}
 use Rattle.extent_model.proofs.Rooms.{no_gap, gap_small}
 use Rattle.state_model.specs.Taken.{taken}
 use Rattle.state_model.specs.Merges.{NoRoom, placed, before, at_page}
-use Rattle.state_model.specs.Refusals.{flush_places}
+use Rattle.state_model.specs.Refusals.{flush_places, flushed_entries}
+use Rattle.line_model.specs.Requests.{Request}
 
 -- ---- tables that are placed
 
@@ -34,18 +34,18 @@ wants_more filter_bytes settings pages extents level (output ∷ more) refusal e
           subst (λ (r : NoRoom). r.gap < r.need) same (no_gap pages extents need is)
     ] refl e
 
-pub flush_refused : (filter_bytes : FilterBytes) (s : State) → largest_gap s.pages (taken s) < table_pages filter_bytes s.settings (memory s)
-    → flush_places filter_bytes s ≡ Err (record { need = table_pages filter_bytes s.settings (memory s); gap = largest_gap s.pages (taken s) })
-flush_refused filter_bytes s wide =
-    let need = table_pages filter_bytes s.settings (memory s) in
-    ap (λ (o : Option ℕ). at_page o (λ page. before (table_of filter_bytes s.settings 0 page (memory s)) (placed filter_bytes s.settings s.pages ((page, need) ∷ taken s) 0 []))
+pub flush_refused : (filter_bytes : FilterBytes) (s : State) (request : Request) → largest_gap s.pages (taken s) < table_pages filter_bytes s.settings (flushed_entries s request)
+    → flush_places filter_bytes s request ≡ Err (record { need = table_pages filter_bytes s.settings (flushed_entries s request); gap = largest_gap s.pages (taken s) })
+flush_refused filter_bytes s request wide =
+    let need = table_pages filter_bytes s.settings (flushed_entries s request) in
+    ap (λ (o : Option ℕ). at_page o (λ page. before (table_of filter_bytes s.settings 0 page (flushed_entries s request)) (placed filter_bytes s.settings s.pages ((page, need) ∷ taken s) 0 []))
     (record { need = need; gap = largest_gap s.pages (taken s) })) (gap_small s.pages (taken s) need wide)
 
-pub flush_wants_more : (filter_bytes : FilterBytes) (s : State) (refusal : NoRoom) → flush_places filter_bytes s ≡ Err refusal
-    → refusal ≡ record { need = table_pages filter_bytes s.settings (memory s); gap = largest_gap s.pages (taken s) }
-flush_wants_more filter_bytes s refusal e =
-    let need = table_pages filter_bytes s.settings (memory s) in
-    let there = λ (page : ℕ). before (table_of filter_bytes s.settings 0 page (memory s)) (placed filter_bytes s.settings s.pages ((page, need) ∷ taken s) 0 []) in
+pub flush_wants_more : (filter_bytes : FilterBytes) (s : State) (request : Request) (refusal : NoRoom) → flush_places filter_bytes s request ≡ Err refusal
+    → refusal ≡ record { need = table_pages filter_bytes s.settings (flushed_entries s request); gap = largest_gap s.pages (taken s) }
+flush_wants_more filter_bytes s request refusal e =
+    let need = table_pages filter_bytes s.settings (flushed_entries s request) in
+    let there = λ (page : ℕ). before (table_of filter_bytes s.settings 0 page (flushed_entries s request)) (placed filter_bytes s.settings s.pages ((page, need) ∷ taken s) 0 []) in
     let refused : NoRoom = record { need = need; gap = largest_gap s.pages (taken s) } in
     elim (first_gap s.pages (taken s) need) as (λ o. at_page o there refused ≡ Err refusal → refusal ≡ refused) [
       | Some page ↦ λ so. cc

@@ -10,21 +10,22 @@ use Rattle.key_base.specs.Limits.{last_epoch, max_tables}
 use Rattle.state_model.proofs.Outputs.{placed_lists}
 use Rattle.filter_api.specs.declared.settings.Settings.{Settings}
 use Rattle.filter_api.specs.Ranges.{InRange}
-use Rattle.entry_model.specs.Entries.{Entry, body, filled, need, gap, IsLogged}
+use Rattle.entry_model.specs.Entries.{Entry, body, filled, need, gap, IsEntry, IsLogged}
 use Rattle.block_model.specs.Block.{IsTable}
 use Rattle.state_model.specs.State.{State, Job, new_state}
 use Rattle.table_model.specs.Tables.{FilterBytes, Table}
 use Rattle.state_model.specs.View.{memory}
 use Rattle.state_model.specs.Taken.{extent_of, taken}
 use Rattle.state_model.specs.Merges.{NoRoom, Plan, placed, planned, on_level, outputs_for, lasting, newest_of}
-use Rattle.state_model.specs.Changes.{with_tables, flush_placed, flushed_with, flushed, logged, logged_then, written}
+use Rattle.state_model.specs.Changes.{with_tables, flush_placed, flushed_with, flushed, is_long, logged, logged_then, written}
 use Rattle.line_model.specs.Replies.{Reply, ManyTables, LastEpoch}
 use Rattle.extent_model.specs.Extents.{AreApart}
 use Rattle.state_model.specs.Sound.{IsSoundTable, IsSound, StandsBefore, AreMade, IsJob, MayRun, plan_of_job}
 use Rattle.extent_model.proofs.Lists.{pairs_of, all_pairs}
 use Rattle.extent_model.proofs.Free.{Laid}
 use Rattle.state_model.proofs.Places.{table_is_sound, placed_laid}
-use Rattle.state_model.proofs.SoundLogs.{memory_is_table, newest_none, filled_none, filled_with}
+use Rattle.state_model.proofs.Overs.{flushed_over}
+use Rattle.state_model.proofs.SoundLogs.{memory_is_table, newest_none, over_is_table, filled_none, filled_with}
 
 not_le : (m n : ℕ) → nat_le m n ≡ false → n < m
 not_le m n e = grind arith
@@ -124,39 +125,37 @@ front_sound filter_bytes s t sound zero_level table other few laid = record {
   job = may_run_behind filter_bytes s.settings s.tables t s.job zero_level sound.job;
 }
 
-with_tables_sound : (filter_bytes : FilterBytes) (s : State) (made : List Table) → IsSound filter_bytes s → IsTable (memory s) → length s.tables < max_tables
-    → Laid s.pages (map extent_of made ++ taken s) → AreMade filter_bytes s.settings 0 (memory s ∷ []) made → length made ≡ 1 → IfSound filter_bytes (with_tables s (made ++ s.tables))
-with_tables_sound filter_bytes s [] sound table few laid are one = absurd (omega arith)
-with_tables_sound filter_bytes s (t ∷ u ∷ more) sound table few laid are one = absurd (omega arith)
-with_tables_sound filter_bytes s (t ∷ []) sound table few laid are one =
+with_tables_sound : (filter_bytes : FilterBytes) (s : State) (entries : List Entry) (made : List Table) → IsSound filter_bytes s → IsTable entries → length s.tables < max_tables
+    → Laid s.pages (map extent_of made ++ taken s) → AreMade filter_bytes s.settings 0 (entries ∷ []) made → length made ≡ 1 → IfSound filter_bytes (with_tables s (made ++ s.tables))
+with_tables_sound filter_bytes s entries [] sound table few laid are one = absurd (omega arith)
+with_tables_sound filter_bytes s entries (t ∷ u ∷ more) sound table few laid are one = absurd (omega arith)
+with_tables_sound filter_bytes s entries (t ∷ []) sound table few laid are one =
     elim (s.epoch == last_epoch) as (λ b. (s.epoch == last_epoch) ≡ b → IfSound filter_bytes (cond b (Err LastEpoch) (Ok (in_front s t)))) [
       | true ↦ λ _. tt
       | false ↦ λ e. front_sound filter_bytes s t sound (ap (λ (u : Table). u.level) are.0) (subst IsSoundTable (sym are.0)
-          (table_is_sound filter_bytes s.settings 0 t.first_page (memory s) (omega arith) sound.settings sound.ratio table))
+          (table_is_sound filter_bytes s.settings 0 t.first_page entries (omega arith) sound.settings sound.ratio table))
           (eqb-false s.epoch last_epoch e) few laid
     ] refl
 
-flush_placed_sound : (filter_bytes : FilterBytes) (s : State) (done : Result (List Table) NoRoom) → IsSound filter_bytes s → IsTable (memory s) → length s.tables < max_tables
-    → placed filter_bytes s.settings s.pages (taken s) 0 (memory s ∷ []) ≡ done → IfSound filter_bytes (flush_placed s done)
-flush_placed_sound filter_bytes s (Err refusal) sound table few e = tt
-flush_placed_sound filter_bytes s (Ok made) sound table few e =
-    let laid = placed_laid filter_bytes s.settings s.pages (taken s) 0 (memory s ∷ []) made (table.some, tt) (sound.on_device, pairs_of AreApart (taken s) sound.apart) e in
-    let one = sym (length-map made (λ (t : Table). t.entries)) ∙ ap (λ (l : List (List Entry)). length l) (placed_lists filter_bytes s (taken s) 0 (memory s ∷ []) made e) in
-    with_tables_sound filter_bytes s made sound table few laid.0 laid.1 one
+flush_placed_sound : (filter_bytes : FilterBytes) (s : State) (entries : List Entry) (done : Result (List Table) NoRoom) → IsSound filter_bytes s → IsTable entries → length s.tables < max_tables
+    → placed filter_bytes s.settings s.pages (taken s) 0 (entries ∷ []) ≡ done → IfSound filter_bytes (flush_placed s done)
+flush_placed_sound filter_bytes s entries (Err refusal) sound table few e = tt
+flush_placed_sound filter_bytes s entries (Ok made) sound table few e =
+    let laid = placed_laid filter_bytes s.settings s.pages (taken s) 0 (entries ∷ []) made (table.some, tt) (sound.on_device, pairs_of AreApart (taken s) sound.apart) e in
+    let one = sym (length-map made (λ (t : Table). t.entries)) ∙ ap (λ (l : List (List Entry)). length l) (placed_lists filter_bytes s (taken s) 0 (entries ∷ []) made e) in
+    with_tables_sound filter_bytes s entries made sound table few laid.0 laid.1 one
 
-flushed_with_sound : (filter_bytes : FilterBytes) (s : State) (entries : List Entry) → IsSound filter_bytes s → memory s ≡ entries → IfSound filter_bytes (flushed_with filter_bytes s entries)
-flushed_with_sound filter_bytes s [] sound e = sound
-flushed_with_sound filter_bytes s (entry ∷ more) sound e =
-    let some : 1 ≤ length (memory s) = subst (λ (l : List Entry). 1 ≤ length l) (sym e) (omega arith) in
-    let table = memory_is_table s.log sound.log sound.log_fits some in
+flushed_with_sound : (filter_bytes : FilterBytes) (s : State) (entries : List Entry) → IsSound filter_bytes s → (1 ≤ length entries → IsTable entries) → IfSound filter_bytes (flushed_with filter_bytes s entries)
+flushed_with_sound filter_bytes s [] sound table = sound
+flushed_with_sound filter_bytes s (entry ∷ more) sound table =
     let done = placed filter_bytes s.settings s.pages (taken s) 0 ((entry ∷ more) ∷ []) in
     elim (nat_le max_tables (length s.tables)) as (λ b. nat_le max_tables (length s.tables) ≡ b → IfSound filter_bytes (cond b (Err ManyTables) (flush_placed s done))) [
       | true ↦ λ _. tt
-      | false ↦ λ few. flush_placed_sound filter_bytes s done sound table (not_le max_tables (length s.tables) few) (ap (λ (l : List Entry). placed filter_bytes s.settings s.pages (taken s) 0 (l ∷ [])) e)
+      | false ↦ λ few. flush_placed_sound filter_bytes s (entry ∷ more) done sound (table (omega arith)) (not_le max_tables (length s.tables) few) refl
     ] refl
 
 pub flushed_done : (filter_bytes : FilterBytes) (s : State) → IsSound filter_bytes s → IfSound filter_bytes (flushed filter_bytes s)
-flushed_done filter_bytes s sound = flushed_with_sound filter_bytes s (memory s) sound refl
+flushed_done filter_bytes s sound = flushed_with_sound filter_bytes s (memory s) sound (memory_is_table s.log sound.log sound.log_fits)
 
 pub flushed_sound : (filter_bytes : FilterBytes) (s t : State) → IsSound filter_bytes s → flushed filter_bytes s ≡ Ok t → IsSound filter_bytes t
 flushed_sound filter_bytes s t sound e = if_sound filter_bytes (flushed filter_bytes s) t (flushed_done filter_bytes s sound) e
@@ -219,11 +218,27 @@ logged_then_sound : (filter_bytes : FilterBytes) (entry : Entry) (done : Result 
 logged_then_sound filter_bytes entry (Err refusal) is sound empty = tt
 logged_then_sound filter_bytes entry (Ok t) is sound empty = logged_sound filter_bytes t entry sound is (omega (arith, ap filled empty, filled_none, body_bound entry is))
 
-pub written_done : (filter_bytes : FilterBytes) (s : State) (entry : Entry) → IsSound filter_bytes s → IsLogged entry → IfSound filter_bytes (written filter_bytes s entry)
-written_done filter_bytes s entry sound is = elim (nat_le (need entry) (gap s.log)) as (λ b. nat_le (need entry) (gap s.log) ≡ b → IfSound filter_bytes (cond b (Ok (logged s entry)) (logged_then entry (flushed filter_bytes s)))) [
+-- one entry over the memory entries, with these, is flushed
+over_sound : (filter_bytes : FilterBytes) (s : State) (entry : Entry) → IsSound filter_bytes s → IsEntry entry → IfSound filter_bytes (flushed filter_bytes (logged s entry))
+over_sound filter_bytes s entry sound is = subst (IfSound filter_bytes) (sym (flushed_over filter_bytes s entry))
+    (flushed_with_sound filter_bytes s (memory (logged s entry)) sound (over_is_table s.log entry sound.log is sound.log_fits))
+
+short_entry : (entry : Entry) → IsEntry entry → is_long entry ≡ false → IsLogged entry
+short_entry entry is short = record { sound = is; short = grind arith }
+
+short_done : (filter_bytes : FilterBytes) (s : State) (entry : Entry) → IsSound filter_bytes s → IsLogged entry
+    → IfSound filter_bytes (cond (nat_le (need entry) (gap s.log)) (Ok (logged s entry)) (logged_then entry (flushed filter_bytes s)))
+short_done filter_bytes s entry sound is = elim (nat_le (need entry) (gap s.log)) as (λ b. nat_le (need entry) (gap s.log) ≡ b → IfSound filter_bytes (cond b (Ok (logged s entry)) (logged_then entry (flushed filter_bytes s)))) [
   | true ↦ λ e. logged_sound filter_bytes s entry sound is (room_left s entry (le_of (need entry) (gap s.log) e))
   | false ↦ λ _. logged_then_sound filter_bytes entry (flushed filter_bytes s) is (flushed_done filter_bytes s sound) (flushed_with_empty filter_bytes s (memory s) refl)
 ] refl
 
-pub written_sound : (filter_bytes : FilterBytes) (s t : State) (entry : Entry) → IsSound filter_bytes s → IsLogged entry → written filter_bytes s entry ≡ Ok t → IsSound filter_bytes t
+pub written_done : (filter_bytes : FilterBytes) (s : State) (entry : Entry) → IsSound filter_bytes s → IsEntry entry → IfSound filter_bytes (written filter_bytes s entry)
+written_done filter_bytes s entry sound is = elim (is_long entry) as (λ long. is_long entry ≡ long → IfSound filter_bytes
+    (cond long (flushed filter_bytes (logged s entry)) (cond (nat_le (need entry) (gap s.log)) (Ok (logged s entry)) (logged_then entry (flushed filter_bytes s))))) [
+      | true ↦ λ _. over_sound filter_bytes s entry sound is
+      | false ↦ λ short. short_done filter_bytes s entry sound (short_entry entry is short)
+    ] refl
+
+pub written_sound : (filter_bytes : FilterBytes) (s t : State) (entry : Entry) → IsSound filter_bytes s → IsEntry entry → written filter_bytes s entry ≡ Ok t → IsSound filter_bytes t
 written_sound filter_bytes s t entry sound is e = if_sound filter_bytes (written filter_bytes s entry) t (written_done filter_bytes s entry sound is) e

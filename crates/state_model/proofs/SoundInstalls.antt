@@ -262,7 +262,7 @@ install_sound filter_bytes s job sound done other =
 pub slice_sound : (filter_bytes : FilterBytes) (s after : State) (tended : Tended) → IsSound filter_bytes s → Tend Ever filter_bytes s tended after → IsSound filter_bytes after
 slice_sound filter_bytes s after tended sound d = elim d as (λ _ new _. IsSound filter_bytes new) [
   | idle none chosen ↦ sound
-  | works job later runs goes other ↦ works_sound filter_bytes s job later sound runs goes
+  | works job later runs goes other more ↦ works_sound filter_bytes s job later sound runs goes
   | installs job later runs goes done other ↦ install_sound filter_bytes s later (works_sound filter_bytes s job later sound runs goes) done.all_written other
   | last_epoch_reached job later runs goes done last ↦ drop_sound filter_bytes s sound
   | no_room job later refusal runs goes refused ↦ drop_sound filter_bytes s sound
@@ -275,7 +275,7 @@ slice_sound filter_bytes s after tended sound d = elim d as (λ _ new _. IsSound
 pub slice_keeps : (filter_bytes : FilterBytes) (s after : State) (tended : Tended) → IsSound filter_bytes s → Tend Ever filter_bytes s tended after → state_map after ≡ state_map s
 slice_keeps filter_bytes s after tended sound d = elim d as (λ _ new _. state_map new ≡ state_map s) [
   | idle none chosen ↦ refl
-  | works job later runs goes other ↦ refl
+  | works job later runs goes other more ↦ refl
   | installs job later runs goes done other ↦ let here = works_sound filter_bytes s job later sound runs goes in install_keeps filter_bytes (with_job s later) later here here.job done.all_written
   | last_epoch_reached job later runs goes done last ↦ refl
   | no_room job later refusal runs goes refused ↦ refl

@@ -5,7 +5,7 @@ use Rattle.std.specs.List.{AllByRecursion}
 use Rattle.std.specs.Prelude.{Option, Some, None, Result, Ok, Err, nat_lt, ◌==◌, ◌||◌}
 use Rattle.byte_fields.specs.Spelling.{IsBytes}
 use Rattle.map_model.specs.SortedMap.{Bytes}
-use Rattle.entry_model.specs.Entries.{IsLogged, del_entry, put_entry}
+use Rattle.entry_model.specs.Entries.{IsEntry, del_entry, put_entry}
 use Rattle.state_model.specs.State.{State, without_job}
 use Rattle.table_model.specs.Tables.{FilterBytes}
 use Rattle.state_model.specs.Changes.{written, flushed, compacted}
@@ -31,8 +31,8 @@ key_within key e = elim (length key == 0 || nat_lt 1024 (length key)) as (λ b. 
   | false ↦ λ off _. (grind arith, grind arith)
 ] refl e
 
-value_within : (value : Bytes) → value_limit value ≡ None → length value ≤ 65536
-value_within value e = elim (nat_lt 65536 (length value)) as (λ b. nat_lt 65536 (length value) ≡ b → cond b (Some (LongValue (length value))) None ≡ None → length value ≤ 65536) [
+value_within : (value : Bytes) → value_limit value ≡ None → length value ≤ 1048576
+value_within value e = elim (nat_lt 1048576 (length value)) as (λ b. nat_lt 1048576 (length value) ≡ b → cond b (Some (LongValue (length value))) None ≡ None → length value ≤ 1048576) [
   | true ↦ λ _ bad. absurd cc
   | false ↦ λ off _. grind arith
 ] refl e
@@ -41,15 +41,15 @@ first_within : (a b : Option Reply) → option_or a b ≡ None → (a ≡ None) 
 first_within (Some limit) b e = absurd cc
 first_within None b e = (refl, e)
 
-put_within : (key value : Bytes) → option_or (key_limit key) (value_limit value) ≡ None → IsBytes key → IsBytes value → IsLogged (put_entry key value)
+put_within : (key value : Bytes) → option_or (key_limit key) (value_limit value) ≡ None → IsBytes key → IsBytes value → IsEntry (put_entry key value)
 put_within key value e of_key of_value =
     let both = first_within (key_limit key) (value_limit value) e in
     let keys = key_within key both.0 in
     let short = value_within value both.1 in
-    record { sound = record { some_key = keys.0; short_key = keys.1; short_value = omega (arith, short); key_bytes = of_key; value_bytes = of_value }; short = short }
+    record { some_key = keys.0; short_key = keys.1; short_value = short; key_bytes = of_key; value_bytes = of_value }
 
-del_within : (key : Bytes) → key_limit key ≡ None → IsBytes key → IsLogged (del_entry key)
-del_within key e of_key = let keys = key_within key e in record { sound = record { some_key = keys.0; short_key = keys.1; short_value = omega arith; key_bytes = of_key; value_bytes = λ i. omega arith }; short = omega arith }
+del_within : (key : Bytes) → key_limit key ≡ None → IsBytes key → IsEntry (del_entry key)
+del_within key e of_key = let keys = key_within key e in record { some_key = keys.0; short_key = keys.1; short_value = omega arith; key_bytes = of_key; value_bytes = λ i. omega arith }
 
 -- ---- the answer
 

@@ -91,7 +91,7 @@ module _ (filter_bytes : FilterBytes) (s after : State) (tended : Tended) where
   pub slice_memory_told : Tend (Only NoMemory) filter_bytes s tended after → TendedOr filter_bytes s Memory tended after
   slice_memory_told d = elim d as (λ t new _. TendedOr filter_bytes s Memory t new) [
     | idle none chosen ↦ inl (idle none chosen)
-    | works job later runs goes other ↦ inl (works job later runs goes other)
+    | works job later runs goes other more ↦ inl (works job later runs goes other more)
     | installs job later runs goes done other ↦ inl (installs job later runs goes done other)
     | last_epoch_reached job later runs goes done last ↦ inl (last_epoch_reached job later runs goes done last)
     | no_room job later refusal runs goes refused ↦ inl (no_room job later refusal runs goes refused)
@@ -104,7 +104,7 @@ module _ (filter_bytes : FilterBytes) (s after : State) (tended : Tended) where
   pub slice_read_told : Tend (Only ReadFailed) filter_bytes s tended after → TendedOr filter_bytes s Device tended after
   slice_read_told d = elim d as (λ t new _. TendedOr filter_bytes s Device t new) [
     | idle none chosen ↦ inl (idle none chosen)
-    | works job later runs goes other ↦ inl (works job later runs goes other)
+    | works job later runs goes other more ↦ inl (works job later runs goes other more)
     | installs job later runs goes done other ↦ inl (installs job later runs goes done other)
     | last_epoch_reached job later runs goes done last ↦ inl (last_epoch_reached job later runs goes done last)
     | no_room job later refusal runs goes refused ↦ inl (no_room job later refusal runs goes refused)
@@ -117,7 +117,7 @@ module _ (filter_bytes : FilterBytes) (s after : State) (tended : Tended) where
   pub slice_damage_told : (damage : Damage) → Tend (Only (DamageMet damage)) filter_bytes s tended after → TendedOr filter_bytes s (Damaged damage) tended after
   slice_damage_told damage d = elim d as (λ t new _. TendedOr filter_bytes s (Damaged damage) t new) [
     | idle none chosen ↦ inl (idle none chosen)
-    | works job later runs goes other ↦ inl (works job later runs goes other)
+    | works job later runs goes other more ↦ inl (works job later runs goes other more)
     | installs job later runs goes done other ↦ inl (installs job later runs goes done other)
     | last_epoch_reached job later runs goes done last ↦ inl (last_epoch_reached job later runs goes done last)
     | no_room job later refusal runs goes refused ↦ inl (no_room job later refusal runs goes refused)
@@ -133,7 +133,7 @@ module _ (filter_bytes : FilterBytes) (s after : State) (tended : Tended) where
       → Tend Never filter_bytes s tended after ⊎ ((tended ≡ Refused Device) × IsLeft filter_bytes s after × (state_map after ≡ state_map s))
   slice_write_told d = elim d as (λ t new _. Tend Never filter_bytes s t new ⊎ ((t ≡ Refused Device) × IsLeft filter_bytes s new × (state_map new ≡ state_map s))) [
     | idle none chosen ↦ inl (idle none chosen)
-    | works job later runs goes other ↦ inl (works job later runs goes other)
+    | works job later runs goes other more ↦ inl (works job later runs goes other more)
     | installs job later runs goes done other ↦ inl (installs job later runs goes done other)
     | last_epoch_reached job later runs goes done last ↦ inl (last_epoch_reached job later runs goes done last)
     | no_room job later refusal runs goes refused ↦ inl (no_room job later refusal runs goes refused)
@@ -151,7 +151,7 @@ WantsMore tended = Unit {0}
 slice_wants : (filter_bytes : FilterBytes) (s after : State) (tended : Tended) → Tend Ever filter_bytes s tended after → WantsMore tended
 slice_wants filter_bytes s after tended d = elim d as (λ t _ _. WantsMore t) [
   | idle none chosen ↦ tt
-  | works job later runs goes other ↦ tt
+  | works job later runs goes other more ↦ tt
   | installs job later runs goes done other ↦ tt
   | last_epoch_reached job later runs goes done last ↦ tt
   | no_room job later refusal runs goes refused ↦

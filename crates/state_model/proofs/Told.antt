@@ -122,7 +122,7 @@ slice_told : (causes : Why → Bool) (filter_bytes : FilterBytes) (s after : Sta
     → Tend (Allowed causes) filter_bytes s tended after → IfRefused causes filter_bytes s tended after
 slice_told causes filter_bytes s after tended d = elim d as (λ t new _. IfRefused causes filter_bytes s t new) [
   | idle none chosen ↦ tt
-  | works job later runs goes other ↦ tt
+  | works job later runs goes other more ↦ tt
   | installs job later runs goes done other ↦ tt
   | last_epoch_reached job later runs goes done last ↦ refl
   | no_room job later refusal runs goes refused ↦ refl
@@ -149,7 +149,7 @@ Reason filter_bytes s tended after = Unit {0}
 reason : (filter_bytes : FilterBytes) (s after : State) (tended : Tended) → Tend Ever filter_bytes s tended after → Reason filter_bytes s tended after
 reason filter_bytes s after tended d = elim d as (λ t new _. Reason filter_bytes s t new) [
   | idle none chosen ↦ (none, chosen, refl)
-  | works job later runs goes other ↦ (later, (job, runs, goes), inl refl)
+  | works job later runs goes other more ↦ (later, (job, runs, goes), inl refl)
   | installs job later runs goes done other ↦ (later, (job, runs, goes), inr (done, other, refl))
   | last_epoch_reached job later runs goes done last ↦ (later, (job, runs, goes), done, last)
   | no_room job later refusal runs goes refused ↦ (later, (job, runs, goes), refused)

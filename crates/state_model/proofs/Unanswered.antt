@@ -188,7 +188,7 @@ TellsOfNone tended = Unit {0}
 slice_tells : (filter_bytes : FilterBytes) (s after : State) (job : Job) (tended : Tended) → Runs s job → job.to_read ≡ 0 → Tend OfReads filter_bytes s tended after → TellsOfNone tended
 slice_tells filter_bytes s after job tended runs none d = elim d as (λ t _ _. TellsOfNone t) [
   | idle no_job chosen ↦ tt
-  | works other later also goes new ↦ tt
+  | works other later also goes new more ↦ tt
   | installs other later also goes done new ↦ tt
   | last_epoch_reached other later also goes done last ↦ none_told LastEpoch refl
   | no_room other later refusal also goes refused ↦ none_told (Full refusal.need refusal.gap) refl
@@ -210,7 +210,7 @@ MayTell filter_bytes s tended = Unit {0}
 slice_writes : (filter_bytes : FilterBytes) (s after : State) (tended : Tended) → Tend (Only WriteFailed) filter_bytes s tended after → MayTell filter_bytes s tended
 slice_writes filter_bytes s after tended d = elim d as (λ t _ _. MayTell filter_bytes s t) [
   | idle no_job chosen ↦ tt
-  | works job later runs goes new ↦ tt
+  | works job later runs goes new more ↦ tt
   | installs job later runs goes done new ↦ tt
   | last_epoch_reached job later runs goes done last ↦ tt
   | no_room job later refusal runs goes refused ↦ tt

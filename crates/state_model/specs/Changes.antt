@@ -1,7 +1,7 @@
 -- What a put, a flush and a compaction make of a state, or the reply by which they are refused.
-use Rattle.std.specs.Prelude.{◌+◌, ◌==◌, nat_le, if◌then◌else◌, List, [], ◌∷◌, ◌++◌, length, filter, None, Result, Ok, Err}
-use Rattle.key_base.specs.Limits.{last_epoch, max_level, max_tables}
-use Rattle.entry_model.specs.Entries.{Entry, need, gap}
+use Rattle.std.specs.Prelude.{◌+◌, ◌==◌, nat_le, nat_lt, Bool, if◌then◌else◌, List, [], ◌∷◌, ◌++◌, length, filter, None, Result, Ok, Err}
+use Rattle.key_base.specs.Limits.{last_epoch, max_level, max_logged_value_bytes, max_tables}
+use Rattle.entry_model.specs.Entries.{Entry, bytes_of, need, gap}
 use Rattle.entry_model.specs.Newest.{newest_entries}
 use Rattle.state_model.specs.State.{State, without_job}
 use Rattle.table_model.specs.Tables.{FilterBytes, Table}
@@ -39,9 +39,16 @@ abbrev pub logged_then : Entry → Result State Reply → Result State Reply
 logged_then entry (Ok s) = Ok (logged s entry)
 logged_then entry (Err refusal) = Err refusal
 
--- The entry is logged, after a flush exactly where its record does not fit the log area.
+-- the value is longer than any that the log takes
+abbrev pub is_long : Entry → Bool
+is_long entry = nat_lt max_logged_value_bytes (length (bytes_of entry.value))
+
+-- The entry is logged, after a flush exactly where its record does not fit the log area. One with a long value is not logged:
+-- it is flushed, over the memory entries.
 abbrev pub written : FilterBytes → State → Entry → Result State Reply
-written filter_bytes s entry = if nat_le (need entry) (gap s.log) then Ok (logged s entry) else logged_then entry (flushed filter_bytes s)
+written filter_bytes s entry =
+    if is_long entry then flushed filter_bytes (logged s entry)
+    else (if nat_le (need entry) (gap s.log) then Ok (logged s entry) else logged_then entry (flushed filter_bytes s))
 
 -- ---- compact
 

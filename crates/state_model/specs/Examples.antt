@@ -1,5 +1,5 @@
 -- States and requests by which the definitions are shown.
-use Rattle.std.specs.Prelude.{ℕ, List, [], ◌∷◌, length, map, Option, Some, None, codes}
+use Rattle.std.specs.Prelude.{ℕ, List, [], ◌∷◌, length, map, replicate, Option, Some, None, codes}
 use Rattle.filter_api.specs.declared.settings.Settings.{Settings}
 use Rattle.map_model.specs.SortedMap.{Bytes}
 use Rattle.entry_model.specs.Entries.{del_entry}
@@ -34,6 +34,10 @@ key n = n ∷ []
 -- a put of a key of one byte with a value of one byte
 abbrev pub put_one : ℕ → Request
 put_one n = Put (key n) (1 ∷ [])
+
+-- a put of a key of one byte with a value of one byte more than the log takes
+abbrev pub long_put : ℕ → Request
+long_put n = Put (key n) (replicate 65537 0)
 
 -- four tables in level 0, the newest first, of one key each
 abbrev pub four_tables : List Request

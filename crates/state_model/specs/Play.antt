@@ -39,9 +39,17 @@ merged filter_bytes s = merged_by filter_bytes s (job_of s.job (choose s.tables)
 
 -- ---- a merge in merge slices
 
+-- the job goes on; where nothing is left of it, it is installed, or dropped at the last epoch
+abbrev pub went_on_by : State → Job → List (List Entry) → State
+went_on_by s job [] = if s.epoch == last_epoch then without_job s else installed s job
+went_on_by s job (output ∷ more) = with_job s job
+
+abbrev pub went_on : State → Job → State
+went_on s job = if nat_lt 0 job.to_read then with_job s job else went_on_by s job (outstanding s.tables job)
+
 -- an output is written as it was placed, or the job is dropped where it has no room
 abbrev pub output_written : State → Job → Result (List Table) NoRoom → State
-output_written s job (Ok made) = with_job s (finished job made)
+output_written s job (Ok made) = went_on s (finished job made)
 output_written s job (Err refusal) = without_job s
 
 -- the first of these outputs is written; where none is left the job is installed, or dropped at the last epoch
@@ -53,7 +61,7 @@ with_next filter_bytes s job outputs = output_written s job (next_placed filter_
 abbrev pub sliced_by : FilterBytes → ℕ → State → Option Job → State
 sliced_by filter_bytes blocks s None = s
 sliced_by filter_bytes blocks s (Some job) =
-    if nat_lt 0 job.to_read then with_job s (record job { to_read = job.to_read - blocks })
+    if nat_lt 0 job.to_read then went_on s (record job { to_read = job.to_read - blocks })
     else with_next filter_bytes s job (outstanding s.tables job)
 
 -- the state after one merge slice of so many blocks, where a job runs or is to be chosen

@@ -1,7 +1,7 @@
 -- Why a line is refused.
-use Rattle.std.specs.Prelude.{ℕ, ◌≡◌, ◌≢◌, ◌⊎◌, ◌<◌, ◌≤◌, Bool, true, false, List, [], ◌∷◌, length, Option, Some, None, Result, Ok, Err}
+use Rattle.std.specs.Prelude.{ℕ, ◌≡◌, ◌≢◌, ◌⊎◌, ◌<◌, ◌≤◌, Bool, true, false, if◌then◌else◌, List, [], ◌∷◌, length, Option, Some, None, Result, Ok, Err}
 use Rattle.filter_api.specs.declared.settings.Settings.{Settings}
-use Rattle.key_base.specs.Limits.{last_epoch, max_bound_bytes, max_key_bytes, max_level, max_tables, max_logged_value_bytes}
+use Rattle.key_base.specs.Limits.{last_epoch, max_bound_bytes, max_key_bytes, max_level, max_tables, max_value_bytes}
 use Rattle.map_model.specs.SortedMap.{Bytes}
 use Rattle.entry_model.specs.Entries.{Entry, put_entry, del_entry, need, gap}
 use Rattle.state_model.specs.State.{State, without_job}
@@ -11,7 +11,7 @@ use Rattle.extent_model.specs.Extents.{Extent}
 use Rattle.extent_model.specs.Gaps.{largest_gap}
 use Rattle.state_model.specs.Taken.{taken}
 use Rattle.state_model.specs.Merges.{NoRoom, placed, outputs_for}
-use Rattle.state_model.specs.Changes.{live_entries}
+use Rattle.state_model.specs.Changes.{is_long, live_entries, logged}
 use Rattle.line_model.specs.Requests.{Request, Put, Del, Get, Seek, Range, Count, Estimate, Explain, Flush, Compact}
 use Rattle.line_model.specs.Replies.{Reply, LongKey, LongValue, ManyTables, LastEpoch, Full}
 use Rattle.state_model.specs.Steps.{answer}
@@ -56,7 +56,7 @@ bounds_of request = []
 -- one first. A bound may be empty.
 pub data BreaksLimit (request : Request) : Reply → Type 0 where
   by_key : (key : Bytes) → key_of request ≡ Some key → KeyBreaks key → BreaksLimit request (LongKey (length key))
-  by_value : (key value : Bytes) → request ≡ Put key value → KeyFits key → max_logged_value_bytes < length value
+  by_value : (key value : Bytes) → request ≡ Put key value → KeyFits key → max_value_bytes < length value
       → BreaksLimit request (LongValue (length value))
   by_lower : (lo : Bytes) (more : List Bytes) → bounds_of request ≡ lo ∷ more → max_bound_bytes < length lo → BreaksLimit request (LongKey (length lo))
   by_upper : (lo hi : Bytes) → bounds_of request ≡ lo ∷ hi ∷ [] → length lo ≤ max_bound_bytes → max_bound_bytes < length hi
@@ -64,12 +64,22 @@ pub data BreaksLimit (request : Request) : Reply → Type 0 where
 
 -- ---- causes
 
--- there are memory entries, and a flush of them is asked for, or an entry whose record does not fit the log area
+-- the record of an entry that is logged does not fit the log area, and there are memory entries
+abbrev pub IsWide : State → Entry → Type 0
+IsWide s entry = (gap s.log < need entry) × (memory s ≢ [])
+
+-- A long value is to be put, whatever is in memory; or there are memory entries, and a flush of them is asked for, or an entry
+-- whose record does not fit the log area.
 abbrev pub FlushIsDue : State → Request → Type 0
-FlushIsDue s (Put key value) = (gap s.log < need (put_entry key value)) × (memory s ≢ [])
-FlushIsDue s (Del key) = (gap s.log < need (del_entry key)) × (memory s ≢ [])
+FlushIsDue s (Put key value) = (is_long (put_entry key value) ≡ true) ⊎ IsWide s (put_entry key value)
+FlushIsDue s (Del key) = IsWide s (del_entry key)
 FlushIsDue s Flush = memory s ≢ []
 FlushIsDue s request = ⊥
+
+-- what is flushed where a flush is due: the memory entries, for a long value with its entry over them
+abbrev pub flushed_entries : State → Request → List Entry
+flushed_entries s (Put key value) = if is_long (put_entry key value) then memory (logged s (put_entry key value)) else memory s
+flushed_entries s request = memory s
 
 -- a compaction of a store that is not empty is asked for
 abbrev pub CompactionIsDue : State → Request → Type 0
@@ -77,8 +87,8 @@ CompactionIsDue s Compact = entries_of s ≢ []
 CompactionIsDue s request = ⊥
 
 -- where the tables of a flush are put, and those of a compaction
-abbrev pub flush_places : FilterBytes → State → Result (List Table) NoRoom
-flush_places filter_bytes s = placed filter_bytes s.settings s.pages (taken s) 0 (memory s ∷ [])
+abbrev pub flush_places : FilterBytes → State → Request → Result (List Table) NoRoom
+flush_places filter_bytes s request = placed filter_bytes s.settings s.pages (taken s) 0 (flushed_entries s request ∷ [])
 
 abbrev pub compaction_places : FilterBytes → State → Result (List Table) NoRoom
 compaction_places filter_bytes s = placed filter_bytes s.settings s.pages (taken (without_job s)) max_level (outputs_for s.tables (live_entries s))
@@ -90,9 +100,9 @@ pub data Refused (filter_bytes : FilterBytes) (s : State) (request : Request) : 
   flush_by_tables : limit_of request ≡ None → FlushIsDue s request → max_tables ≤ length s.tables
       → Refused filter_bytes s request ManyTables
   flush_by_room : (refusal : NoRoom) → limit_of request ≡ None → FlushIsDue s request → length s.tables < max_tables
-      → flush_places filter_bytes s ≡ Err refusal → Refused filter_bytes s request (Full refusal.need refusal.gap)
+      → flush_places filter_bytes s request ≡ Err refusal → Refused filter_bytes s request (Full refusal.need refusal.gap)
   flush_by_epoch : (made : List Table) → limit_of request ≡ None → FlushIsDue s request → length s.tables < max_tables
-      → flush_places filter_bytes s ≡ Ok made → s.epoch ≡ last_epoch → Refused filter_bytes s request LastEpoch
+      → flush_places filter_bytes s request ≡ Ok made → s.epoch ≡ last_epoch → Refused filter_bytes s request LastEpoch
   compaction_by_epoch : limit_of request ≡ None → CompactionIsDue s request → s.epoch ≡ last_epoch
       → Refused filter_bytes s request LastEpoch
   compaction_by_room : (refusal : NoRoom) → limit_of request ≡ None → CompactionIsDue s request → s.epoch ≢ last_epoch
@@ -113,8 +123,10 @@ pub record RefusalLaws : Type 0 where
       (filter_bytes : FilterBytes) (settings : Settings) (pages : ℕ) (extents : List Extent) (level : ℕ) (outputs : List (List Entry)) (refusal : NoRoom)
       → placed filter_bytes settings pages extents level outputs ≡ Err refusal → refusal.gap < refusal.need
   pub flush_room :
-      (filter_bytes : FilterBytes) (s : State) → largest_gap s.pages (taken s) < table_pages filter_bytes s.settings (memory s)
-      → flush_places filter_bytes s ≡ Err (record { need = table_pages filter_bytes s.settings (memory s); gap = largest_gap s.pages (taken s) })
+      (filter_bytes : FilterBytes) (s : State) (request : Request)
+      → largest_gap s.pages (taken s) < table_pages filter_bytes s.settings (flushed_entries s request)
+      → flush_places filter_bytes s request
+      ≡ Err (record { need = table_pages filter_bytes s.settings (flushed_entries s request); gap = largest_gap s.pages (taken s) })
   pub flush_room_only :
-      (filter_bytes : FilterBytes) (s : State) (refusal : NoRoom) → flush_places filter_bytes s ≡ Err refusal
-      → refusal ≡ record { need = table_pages filter_bytes s.settings (memory s); gap = largest_gap s.pages (taken s) }
+      (filter_bytes : FilterBytes) (s : State) (request : Request) (refusal : NoRoom) → flush_places filter_bytes s request ≡ Err refusal
+      → refusal ≡ record { need = table_pages filter_bytes s.settings (flushed_entries s request); gap = largest_gap s.pages (taken s) }

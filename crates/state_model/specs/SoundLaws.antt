@@ -7,7 +7,7 @@ use Rattle.filter_model.specs.Keys.{IsKeyList}
 use Rattle.byte_fields.specs.Spelling.{IsBytes}
 use Rattle.key_base.specs.Limits.{first_table_page, log_bytes, max_device_pages, max_ratio, max_tables, min_device_pages}
 use Rattle.map_model.specs.SortedMap.{Bytes}
-use Rattle.entry_model.specs.Entries.{Entry, IsLogged, filled, keys_of}
+use Rattle.entry_model.specs.Entries.{Entry, IsEntry, filled, keys_of}
 use Rattle.state_model.specs.State.{State, Job, new_state, without_job}
 use Rattle.table_model.specs.Tables.{FilterBytes, Table}
 use Rattle.state_model.specs.View.{memory, state_map}
@@ -44,10 +44,10 @@ abbrev pub FlushKeepsSound : Type 0
 FlushKeepsSound =
     (filter_bytes : FilterBytes) (s t : State) → IsSound filter_bytes s → flushed filter_bytes s ≡ Ok t → IsSound filter_bytes t
 
--- so does an entry that is written
+-- so does an entry that is written, logged or flushed over the memory entries
 abbrev pub WriteKeepsSound : Type 0
 WriteKeepsSound =
-    (filter_bytes : FilterBytes) (s t : State) (entry : Entry) → IsSound filter_bytes s → IsLogged entry
+    (filter_bytes : FilterBytes) (s t : State) (entry : Entry) → IsSound filter_bytes s → IsEntry entry
     → written filter_bytes s entry ≡ Ok t → IsSound filter_bytes t
 
 -- and a compaction

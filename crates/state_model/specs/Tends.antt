@@ -97,10 +97,11 @@ pub data Tended : Type 0 where
   Refused : (why : Reply) → Tended
 
 -- A merge slice is idle where no job runs and none is to be chosen. Else it works, or is refused and drops the job. It reads
--- while blocks are to read, and writes where it may. `Cause` says what must be so for what the state does not explain.
+-- while blocks are to read, and writes where it may; a job of which nothing is left it installs. `Cause` says what must be so for what the state does not explain.
 pub data Tend (Cause : Why → Type 0) (filter_bytes : FilterBytes) (s : State) : Tended → State → Type 0 where
   idle : s.job ≡ None → choose s.tables ≡ None → Tend Cause filter_bytes s Idle s
-  works : (job later : Job) → Runs s job → Progresses filter_bytes s job later → later ≢ job → Tend Cause filter_bytes s Worked (with_job s later)
+  works : (job later : Job) → Runs s job → Progresses filter_bytes s job later → later ≢ job → (IsDone s.tables later → ⊥)
+      → Tend Cause filter_bytes s Worked (with_job s later)
   installs : (job later : Job) → Runs s job → Progresses filter_bytes s job later → IsDone s.tables later → s.epoch ≢ last_epoch
       → Tend Cause filter_bytes s Worked (installed s later)
   last_epoch_reached : (job later : Job) → Runs s job → Progresses filter_bytes s job later → IsDone s.tables later → s.epoch ≡ last_epoch

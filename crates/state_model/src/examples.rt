@@ -51,12 +51,12 @@ pub fn levels_and_gaps()
     ensures limits_of_the_levels { map level_limit (1 ∷ 2 ∷ 3 ∷ 4 ∷ 5 ∷ []) ≡ 256 ∷ 2048 ∷ 16384 ∷ 131072 ∷ 1048576 ∷ [] }
 {}
 
-/// A merge in merge slices of two blocks: two that read, one that writes, one that installs.
+/// A merge in merge slices of two blocks: two that read, one that writes and installs.
 #[tactic(auto, unfolding(block_model::specs::Pages::pages_for, block_model::specs::Bodies::entries_bytes, block_model::specs::Pages::block_length, block_model::specs::Pages::block_pages, block_model::specs::Pages::blocks_of, block_model::specs::Pages::data_pages, block_model::specs::Pages::index_length, entry_model::specs::Entries::filled, entry_model::specs::Entries::gap, key_base::specs::Limits::last_epoch))]
 pub fn merges_in_slices()
-    ensures three_are_too_few { map place_and_size (played_in_slices one_byte 2 small_store (four_tables ++ replicate 3 (put_one 0x65))).1.tables ≡ (0 ∷ 201 ∷ 3 ∷ 1 ∷ 1 ∷ []) ∷ (0 ∷ 198 ∷ 3 ∷ 1 ∷ 1 ∷ []) ∷ (0 ∷ 195 ∷ 3 ∷ 1 ∷ 1 ∷ []) ∷ (0 ∷ 192 ∷ 3 ∷ 1 ∷ 1 ∷ []) ∷ [] }
-    ensures four_are_enough { map place_and_size (played_in_slices one_byte 2 small_store (four_tables ++ replicate 4 (put_one 0x65))).1.tables ≡ (1 ∷ 204 ∷ 3 ∷ 1 ∷ 4 ∷ []) ∷ [] }
-    ensures a_flush_between_them_stays { map place_and_size (played_in_slices one_byte 2 small_store (four_tables ++ put_one 0x65 ∷ Flush ∷ replicate 3 (put_one 0x66))).1.tables ≡ (0 ∷ 204 ∷ 3 ∷ 1 ∷ 1 ∷ []) ∷ (1 ∷ 207 ∷ 3 ∷ 1 ∷ 4 ∷ []) ∷ [] }
+    ensures two_are_too_few { map place_and_size (played_in_slices one_byte 2 small_store (four_tables ++ replicate 2 (put_one 0x65))).1.tables ≡ (0 ∷ 201 ∷ 3 ∷ 1 ∷ 1 ∷ []) ∷ (0 ∷ 198 ∷ 3 ∷ 1 ∷ 1 ∷ []) ∷ (0 ∷ 195 ∷ 3 ∷ 1 ∷ 1 ∷ []) ∷ (0 ∷ 192 ∷ 3 ∷ 1 ∷ 1 ∷ []) ∷ [] }
+    ensures three_are_enough { map place_and_size (played_in_slices one_byte 2 small_store (four_tables ++ replicate 3 (put_one 0x65))).1.tables ≡ (1 ∷ 204 ∷ 3 ∷ 1 ∷ 4 ∷ []) ∷ [] }
+    ensures a_flush_between_them_stays { map place_and_size (played_in_slices one_byte 2 small_store (four_tables ++ put_one 0x65 ∷ Flush ∷ replicate 2 (put_one 0x66))).1.tables ≡ (0 ∷ 204 ∷ 3 ∷ 1 ∷ 1 ∷ []) ∷ (1 ∷ 207 ∷ 3 ∷ 1 ∷ 4 ∷ []) ∷ [] }
 {}
 
 /// Reads between two keys, and their bounds.

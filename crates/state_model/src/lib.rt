@@ -16,6 +16,7 @@
 pub mod counted;
 pub mod examples;
 mod laws;
+pub mod long_values;
 
 pub use laws::{
     answers_go_on, any_cause, causes_have_replies, change_laws, changes_keep_sound, choice_laws,

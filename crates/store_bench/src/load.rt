@@ -1,4 +1,5 @@
 //! What a store has, and what is asked of it.
+use crate::kinds::Kind;
 use anyhow::{Result, bail};
 use bench_kit::Options;
 use filter_api::Settings;
@@ -15,6 +16,8 @@ pub enum Wanted {
     /// What puts and their merge slices write, the longest merge slice, and what a compacted store reads for what is
     /// not there.
     Puts,
+    /// How many pages the pairs take in a compacted store.
+    Sizes,
 }
 
 /// What a store has, and what is asked of it.
@@ -30,6 +33,8 @@ pub struct Load {
     /// How often the store is asked, or merged.
     pub calls: usize,
     pub seed: u64,
+    /// What keys are like, where that is asked.
+    pub kind: Option<Kind>,
 }
 
 impl Load {
@@ -47,6 +52,7 @@ impl Load {
             value_bytes: options.value_bytes as usize,
             calls: options.calls as usize,
             seed: options.seed,
+            kind: Kind::named(options.keys),
         })
     }
 }
@@ -57,6 +63,7 @@ fn parse_wanted(word: &str) -> Result<Wanted> {
         "counts" => Ok(Wanted::Counts),
         "merge" => Ok(Wanted::Merge),
         "puts" => Ok(Wanted::Puts),
+        "sizes" => Ok(Wanted::Sizes),
         _ => bail!("no such measure: see --help"),
     }
 }

@@ -6,6 +6,7 @@
 //! store_bench counts --device /dev/shm/furqeldi.bench --filter plain --count 10000 --calls 2000
 //! store_bench merge --device /dev/shm/furqeldi.bench --count 40000 --value-bytes 100 --hash-bits 8 --real-bits 8 --calls 9
 //! store_bench puts --device /dev/shm/furqeldi.bench --count 1000000 --hash-bits 8 --real-bits 8 --calls 100000
+//! store_bench sizes --device /dev/shm/furqeldi.bench --keys addresses --count 100000 --value-bytes 20
 //! ```
 //!
 //! The file at the path becomes a new store, whatever stood there. Random keys of 8 bytes with values of 8 bytes are put and
@@ -20,12 +21,14 @@ mod filling;
 mod filters;
 mod floors;
 mod keys;
+mod kinds;
 mod load;
 mod made;
 mod merging;
 mod missing;
 mod outputs;
 mod rounds;
+mod sizes;
 mod stores;
 
 use anyhow::{Result, bail};
@@ -49,7 +52,9 @@ kind --filter, of --hash-bits, --real-bits and --ratio:
   counts    the same calls once, and what they found; then what puts in random order write, and what a compacted store
             reads
   merge     what it takes to merge --tables tables of level 0, beside its floor, the least of --calls merges
-  puts      what puts in random order write, the longest slice of a merge, and what a compacted store reads in --calls calls";
+  puts      what puts in random order write, the longest slice of a merge, and what a compacted store reads in --calls calls
+  sizes     the pages of a compacted store, and the bytes of data and index a pair, of keys of the kind --keys: random or rising
+            numbers of 8 bytes, digits (16 of them), addresses (of 46 letters) or users (a user, a second and a number)";
 
 fn main(rt: HostRuntime) -> Result<()> {
     let words: Vec<String> = env::args(&rt)?.skip(1).collect(rt.alloc())?;
@@ -90,5 +95,6 @@ fn measure<F: RangeFilter>(
         }
         Wanted::Merge => merging::measure_merges::<F>(rt, alloc, disk, load, &keys),
         Wanted::Puts => filling::fill_and_print::<F>(rt, alloc, disk, load, &keys),
+        Wanted::Sizes => sizes::measure_sizes::<F>(rt, alloc, disk, load),
     }
 }

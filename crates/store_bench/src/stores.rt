@@ -8,8 +8,8 @@ use key_base::SLOT_BYTES;
 use std::alloc::{AllocError, Global};
 use store_core::{Store, Tended};
 
-// The pages of the device.
-const PAGES: u64 = 65_536;
+// The pages of the device: more than any measure fills, and the file is only as long as what was written.
+const PAGES: u64 = 1_048_576;
 
 // How many blocks a merge slice may read: so many as the program reads behind a put.
 const SLICE_BLOCKS: u32 = 8;
@@ -48,7 +48,17 @@ pub fn put<F: RangeFilter>(
     key: u64,
     value: &[u8],
 ) -> Result<()> {
-    match store.put(disk, &key.to_be_bytes(), value) {
+    put_key(disk, store, &key.to_be_bytes(), value)
+}
+
+/// Puts a value under a key.
+pub fn put_key<F: RangeFilter>(
+    disk: &mut Device,
+    store: &mut Store<F>,
+    key: &[u8],
+    value: &[u8],
+) -> Result<()> {
+    match store.put(disk, key, value) {
         Ok(()) => Ok(()),
         Err(_) => bail!("a put failed"),
     }

@@ -2,8 +2,8 @@
 //!
 //! [`parse_line`] reads one line, exactly as the grammar says, and [`piece`] writes a reply into a buffer of any size, as
 //! many bytes of it as fit. Each costs the length of what it reads or writes, and none takes memory: the key and the value
-//! of a line are laid out in a [`Scratch`] that is made once. Not for lines of other shapes, and not for streams: cutting an input into lines is the caller's
-//! ([`next_line`] finds the first one).
+//! of a line are laid out in a [`Scratch`] that is made once, with room for a value of 1,048,576 bytes. Not for lines of
+//! other shapes, and not for streams: cutting an input into lines is the caller's ([`next_line`] finds the first one).
 //!
 //! ```text
 //! let mut scratch = Scratch::new(alloc)?;

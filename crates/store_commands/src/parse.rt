@@ -1,6 +1,5 @@
 //! Lines, parsed.
-ghost use Rattle.std.specs.Prelude.{◌≡◌, ◌+◌, ◌∷◌, List, ◌/◌, ◌≤◌, IfOk, IfErr, IfSome, IfNone, length, vec_len};
-ghost use Rattle.key_base.specs.Limits.{max_line_bytes};
+ghost use Rattle.std.specs.Prelude.{◌≡◌, ◌+◌, ◌*◌, ◌∷◌, List, ◌/◌, ◌≤◌, IfOk, IfErr, IfSome, IfNone, length, vec_capacity};
 ghost use Rattle.map_model.specs.SortedMap.{Bytes};
 ghost use Rattle.line_model.specs.Requests as grammar;
 ghost use Rattle.line_model.specs.Requests.{Bad, asked_by, request_of, one_of, two_of, none_of, with_two, seek_of, range_of};
@@ -11,6 +10,7 @@ ghost use Rattle.store_commands.specs.Asks.{Asks, AreWords, AreWithin, scratch_b
 use crate::request::{BadLine, Request};
 use crate::verb::{Verb, verb_in};
 use crate::words::{Words, cut, decoded, number, words_in};
+use byte_fields::lengthen;
 use key_base::MAX_LINE_BYTES;
 use std::alloc::{AllocError, Global};
 
@@ -20,14 +20,15 @@ const SCRATCH_BYTES: usize = MAX_LINE_BYTES / 2;
 /// Room for what one line says. Made once, and lent to each line that is read.
 #[derive(Drop)]
 pub struct Scratch {
+    // as many as the longest line wanted that was read
     bytes: Vec<u8>,
-    ghost size: { vec_len bytes ≡ scratch_bytes },
+    ghost room: { scratch_bytes ≤ vec_capacity bytes },
 }
 
 impl Scratch {
-    /// Takes the room: 70,000 bytes.
+    /// Takes the room: 1,050,000 bytes, of which none is set before a line wants it.
     pub fn new(alloc: Global) -> Result<Scratch, AllocError> {
-        let bytes = vec![in alloc; 0; SCRATCH_BYTES]?;
+        let bytes = Vec::with_capacity(alloc, SCRATCH_BYTES)?;
         Ok(Scratch { bytes })
     }
 }
@@ -47,8 +48,7 @@ fn decoded_two<'a>(first: &[u8], second: &[u8], room: &'a mut [u8]) -> Option<(&
 
 // The one key behind a verb.
 fn one_key<'a>(words: Words<'_>, room: &'a mut [u8]) -> Result<&'a [u8], BadLine>
-    requires room { length room.old ≡ scratch_bytes }
-    requires sizes { AreWithin max_line_bytes words }
+    requires sizes { AreWithin (2 * length room.old + 1) words }
     ensures key { (list : List Bytes) (asks : Bytes → grammar.Request) → AreWords words.entry list → IfOk result (λ key. one_of asks list ≡ asks key.now) }
     ensures bad { (list : List Bytes) (asks : Bytes → grammar.Request) → AreWords words.entry list → IfErr result (λ bad. one_of asks list ≡ Bad bad.0) }
 {
@@ -63,8 +63,7 @@ fn one_key<'a>(words: Words<'_>, room: &'a mut [u8]) -> Result<&'a [u8], BadLine
 
 // The two keys behind a verb, or the key and the value.
 fn two_keys<'a>(words: Words<'_>, room: &'a mut [u8]) -> Result<(&'a [u8], &'a [u8]), BadLine>
-    requires room { length room.old ≡ scratch_bytes }
-    requires sizes { AreWithin max_line_bytes words }
+    requires sizes { AreWithin (2 * length room.old + 1) words }
     ensures keys { (list : List Bytes) (asks : Bytes → Bytes → grammar.Request) → AreWords words.entry list → IfOk result (λ keys. two_of asks list ≡ asks keys.0.now keys.1.now) }
     ensures bad { (list : List Bytes) (asks : Bytes → Bytes → grammar.Request) → AreWords words.entry list → IfErr result (λ bad. two_of asks list ≡ Bad bad.0) }
 {
@@ -89,8 +88,7 @@ fn no_word(words: Words<'_>) -> Result<(), BadLine>
 }
 
 fn parse_seek<'a>(words: Words<'_>, room: &'a mut [u8]) -> Result<Request<'a>, BadLine>
-    requires room { length room.old ≡ scratch_bytes }
-    requires sizes { AreWithin max_line_bytes words }
+    requires sizes { AreWithin (2 * length room.old + 1) words }
     ensures { (list : List Bytes) → AreWords words.entry list → Asks result (seek_of list) }
 {
     match words {
@@ -107,8 +105,7 @@ fn parse_seek<'a>(words: Words<'_>, room: &'a mut [u8]) -> Result<Request<'a>, B
 }
 
 fn parse_range<'a>(words: Words<'_>, room: &'a mut [u8]) -> Result<Request<'a>, BadLine>
-    requires room { length room.old ≡ scratch_bytes }
-    requires sizes { AreWithin max_line_bytes words }
+    requires sizes { AreWithin (2 * length room.old + 1) words }
     ensures { (list : List Bytes) → AreWords words.entry list → Asks result (range_of list) }
 {
     let Words::Three(lo, hi, n) = words else {
@@ -125,8 +122,7 @@ fn parse_range<'a>(words: Words<'_>, room: &'a mut [u8]) -> Result<Request<'a>, 
 
 // What a verb asks with the words behind it.
 fn parse_words<'a>(verb: Verb, words: Words<'_>, room: &'a mut [u8]) -> Result<Request<'a>, BadLine>
-    requires room { length room.old ≡ scratch_bytes }
-    requires sizes { AreWithin max_line_bytes words }
+    requires sizes { AreWithin (2 * length room.old + 1) words }
     ensures { (list : List Bytes) → AreWords words.entry list → Asks result (asked_by (verb_word verb ∷ list)) }
 {
     match verb {
@@ -181,5 +177,6 @@ pub fn parse_line<'a>(line: &[u8], scratch: &'a mut Scratch) -> Result<Request<'
     let Some(verb) = verb_in(word) else {
         return Err(BadLine(2));
     };
+    lengthen(&mut scratch.bytes, line.len() / 2);
     parse_words(verb, words_in(rest), scratch.bytes.as_mut_slice())
 }

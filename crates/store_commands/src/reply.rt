@@ -42,7 +42,7 @@ pub enum Reply<'a> {
     BadLine(u8),
     /// `limit key n`: the key has n bytes, none or over 1,024.
     LongKey(u64),
-    /// `limit value n`: the value has n bytes, over 65,536.
+    /// `limit value n`: the value has n bytes, over 1,048,576.
     LongValue(u64),
     /// `limit tables`: there are as many tables as there may be.
     ManyTables,

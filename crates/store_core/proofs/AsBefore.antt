@@ -22,8 +22,8 @@ module _ (spelling : Spelling) (bytes : FilterBytes) (before : StoreValue) (w : 
       blocks = tied.blocks;
     };
     reads = λ s image shown. record { sound = shown.sound; under = shown.under; memory = shown.memory };
-    flush = λ allowed some. let here = allowed some in record { few = here.few; page = here.page; gap = here.gap; epoch = here.epoch };
-    entry = λ e allowed wide some. let here = allowed wide some in record { few = here.few; page = here.page; gap = here.gap; epoch = here.epoch };
+    flush = λ entries allowed some. let here = allowed some in record { few = here.few; page = here.page; gap = here.gap; epoch = here.epoch };
+    entry = λ e allowed asks some. let here = allowed asks some in record { few = here.few; page = here.page; gap = here.gap; epoch = here.epoch };
   }
 
   pub represents_as_before : (after : StoreValue) → IsAsItWas before after → RepresentsAsBefore spelling bytes before after w

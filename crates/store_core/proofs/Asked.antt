@@ -1,6 +1,5 @@
 -- What a get leaves of a store.
-use Rattle.std.proofs.Common.{◌≡◌, ◌≤◌, ◌+◌, ◌++◌, ℕ, Bool, true, false, List, length, take, refl, sym, ap, subst, ◌∙◌, arith}
-use Rattle.std.proofs.Math.Seq.{take-append_seam}
+use Rattle.std.proofs.Common.{◌≡◌, ◌≤◌, ◌+◌, ℕ, Bool, true, false, List, length, refl, sym, ap, subst, ◌∙◌, arith}
 use Rattle.std.specs.Option.{option_map, option_or}
 use Rattle.std.specs.Prelude.{is_some, IsTrue, Option, None, Result, Ok, Err}
 use Rattle.std.specs.Result.{IsErrAnd}
@@ -69,10 +68,6 @@ no_memory f found some entries s key said is none same = ap (λ (es : List Entry
 pub unsaid : {X : Type 0} (f : X → Option Bytes) (found : Option X) (some : Bool) (entries : List Entry) (store : StoreValue) (key : Bytes) → option_map f found ≡ lookup entries key → some ≡ is_some found
     → some ≡ false → entries ≡ store.memory.entries → lookup store.memory.entries key ≡ None
 unsaid f found some entries store key said is none same = ap (λ (es : List Entry). lookup es key) (sym same) ∙ sym said ∙ ap (option_map f) (none_of found (sym is ∙ none))
-
--- what was written over all of a buffer
-pub written_whole : (n : ℕ) (bytes rest : Bytes) → length bytes ≡ n → take n (bytes ++ rest) ≡ bytes
-written_whole n bytes rest is = ap (λ (k : ℕ). take k (bytes ++ rest)) (sym is) ∙ take-append_seam bytes rest
 
 -- the tables say it, or a block that was kept of them
 pub found_view : (place : Place) (after : StoreValue) (s : State) (key : Bytes) (found : Option Spot) (buffer : Bytes) (kept : List KeptBlock)

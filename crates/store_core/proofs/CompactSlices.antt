@@ -26,7 +26,7 @@ use Rattle.image_model.proofs.Frames.{free_apart, ready_kept}
 use Rattle.image_model.specs.Frames.{IsApartFromReady}
 use Rattle.level_merge.specs.FollowLaws.{CompactionMakes}
 use Rattle.level_merge.specs.TablesAgree.{TablesAgree}
-use Rattle.level_merge.specs.Making.{AreTakenBy, HasPlace, IsMakeRefusal, MakesAnyOutputs, OneOutput, OutputsLeft, SliceOf, merge_extents}
+use Rattle.level_merge.specs.Making.{AreTakenBy, GoesOn, HasPlace, IsMakeRefusal, MakesAnyOutputs, OneOutput, OutputsLeft, SliceOf, merge_extents}
 use Rattle.level_merge.specs.JobValue.{JobValue, compaction}
 use Rattle.level_merge.specs.Outputs.{extent_at}
 use Rattle.level_merge.specs.SliceSteps.{SliceMoves}
@@ -216,7 +216,10 @@ module _ (spelling : Spelling) (bytes : FilterBytes) (m : Manifest) (opened : Li
 
     -- ---- it goes on
 
-    module _ (said : Sliced) (on : SliceOf spelling bytes opened s.tables old new going.left going.made [] free now w x said) (moves : SliceMoves spelling built_cutoff old new free now w x) where
+    module _ (said : Sliced) (slice : SliceOf spelling bytes opened s.tables old new going.left going.made [] free now w x said) (moves : SliceMoves spelling built_cutoff old new free now w x) where
+      abbrev on : GoesOn spelling bytes opened s.tables old new going.left going.made [] free now w x
+      on = slice.goes
+
       placed_on : OneOutput bytes old free now going.left on.later going.made on.now → compact_tables bytes s ≡ behind_made on.now (placed bytes s.settings s.pages now.extents 6 on.later)
       placed_on (inl same) =
           going.placed_so

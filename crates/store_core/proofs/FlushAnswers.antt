@@ -1,12 +1,15 @@
 -- What a flush makes of the state under a store, and why it makes nothing of it.
-use Rattle.std.proofs.Common.{◌≡◌, ◌≢◌, inl, inr, ◌∙◌, ◌<◌, ◌≤◌, ◌+◌, ℕ, true, false, List, [], ◌∷◌, length, refl, sym, ap, subst, arith}
-use Rattle.std.specs.Prelude.{Option, Result, Ok, Err, IsErrAnd, ◌==◌}
+use Rattle.std.proofs.Common.{◌≡◌, ◌≢◌, ◌⊎◌, inl, inr, ◌∙◌, ◌<◌, ◌≤◌, ◌+◌, ℕ, true, false, List, [], ◌∷◌, length, refl, sym, ap, subst, arith}
+use Rattle.std.specs.Prelude.{Option, Some, None, Result, Ok, Err, IsErrAnd, ◌==◌}
+use Rattle.block_model.specs.Block.{IsTable}
 use Rattle.block_model.specs.Places.{end_page}
 use Rattle.byte_fields.specs.declared.parts.Row.{Row}
 use Rattle.disk_trait.specs.Image.{Image}
 use Rattle.disk_trait.specs.World.{Meanwhile, Now, World}
+use Rattle.disk_trait.specs.declared.fault.DiskFault.{DiskFault}
 use Rattle.disk_trait.proofs.Moments.{meanwhile_weaker, started}
 use Rattle.entry_model.specs.Entries.{Entry}
+use Rattle.entry_model.specs.Newest.{newest_entries}
 use Rattle.extent_model.proofs.Rooms.{gap_small}
 use Rattle.extent_model.specs.Extents.{AreLaid, Extent}
 use Rattle.extent_model.specs.Gaps.{first_gap, largest_gap}
@@ -22,20 +25,21 @@ use Rattle.manifest.specs.declared.fault.ManifestFault.{ManifestFault}
 use Rattle.manifest.specs.declared.fault.ManifestFault.TheVariants as fault
 use Rattle.manifest_model.specs.Laws.{IsVersion}
 use Rattle.manifest_model.specs.Version.{Version}
+use Rattle.map_model.specs.SortedMap.{Map}
 use Rattle.mem_table.specs.Table.{MemoryTable}
 use Rattle.state_model.proofs.MostTables.{over_tables}
-use Rattle.state_model.proofs.SoundChanges.{flushed_sound}
+use Rattle.state_model.proofs.Kept.{flushed_keeps}
 use Rattle.state_model.specs.Changes.{flushed}
 use Rattle.state_model.specs.State.{State}
 use Rattle.state_model.specs.Taken.{taken}
-use Rattle.state_model.specs.View.{memory, state_map}
+use Rattle.state_model.specs.View.{state_map}
 use Rattle.table_file.specs.Building.{Built}
 use Rattle.table_file.specs.Opened.{Opened}
 use Rattle.table_file.specs.Writing.{made_filter, made_row}
 use Rattle.table_model.specs.Tables.{FilterBytes, filter_bytes_of, table_of, table_pages}
-use Rattle.store_core.specs.Answers.{IsFailure, WroteEntry, refused, stops, turns}
+use Rattle.store_core.specs.Answers.{WroteEntry, refused, stops, turns}
 use Rattle.store_core.specs.Faults.{of_manifest_fault}
-use Rattle.store_core.specs.Flushing.{FlushedTo, IsFlushFault, IsPlan, IsPlanRefusal, flushed_at, installed_manifest, need_under, opened_of}
+use Rattle.store_core.specs.Flushing.{FlushedTo, IsFlushFault, IsPlan, IsPlanRefusal, flushed_at, installed_manifest, need_under, opened_of, state_with}
 use Rattle.level_merge.specs.JobValue.{JobValue}
 use Rattle.store_core.specs.Caching.{CacheAgrees, Cached}
 use Rattle.store_core.specs.StoreValue.{IsConsistent, StoreValue}
@@ -48,6 +52,7 @@ use Rattle.store_core.proofs.Agreed.{Agree, tied_agree}
 use Rattle.store_core.proofs.Caches.{true_in_front}
 use Rattle.store_core.proofs.Flushed.{flushed_done, flushed_full, flushed_last, flushed_none, last_is}
 use Rattle.store_core.proofs.Frames.{under_stands}
+use Rattle.store_core.proofs.Overs.{placed_sound}
 use Rattle.store_core.proofs.Plans.{pages_are, row_level}
 use Rattle.store_core.proofs.Writing.{never, tied_with}
 
@@ -57,27 +62,31 @@ eq_true m n e = grind arith
 below : (m n : ℕ) → m < n → (m == n) ≡ false
 below m n l = grind arith
 
+-- a fault of the device is no want of memory
+no_memory : (cause : DiskFault) → error.Device cause ≡ error.Memory → ⊥
+no_memory cause is = cc
+
 -- a refusal that a `?` passes on
 pub passed_on : {T : Type 0} (r : Result T StoreError) (x : StoreError) → IsErrAnd r (λ (e : StoreError). e ≡ x) → Err x ≡ r
 passed_on (Ok y) x is = absurd is
 passed_on (Err e) x is = ap Err (sym is)
 
 module _ (spelling : Spelling) (bytes : FilterBytes) (store : StoreValue) (s : State) where
-  abbrev Map : Image → Type 0
-  Map = StandsForMap spelling (state_map s)
+  abbrev Own : Image → Type 0
+  Own = StandsForMap spelling (state_map s)
 
   -- before anything is written
-  pub stands_now : IsConsistent store → (w : World) → Represents spelling bytes store s w → Meanwhile Map w w
-  stands_now whole w tied = started Map w (λ image left. under_stands spelling store.manifest store.tables store.job whole.slot whole.rows s image (tied.images image left))
+  pub stands_now : IsConsistent store → (w : World) → Represents spelling bytes store s w → Meanwhile Own w w
+  stands_now whole w tied = started Own w (λ image left. under_stands spelling store.manifest store.tables store.job whole.slot whole.rows s image (tied.images image left))
 
   -- memory was wanted, whatever the change
-  wanted_in : {T : Type 0} (after : StoreValue) (change : Result State Reply) (a b : World) → Represents spelling bytes after s b → Meanwhile Map a b → WroteEntry {T = T} spelling bytes s change (Err error.Memory) after a b
+  wanted_in : {T : Type 0} (after : StoreValue) (change : Result State Reply) (a b : World) → Represents spelling bytes after s b → Meanwhile Own a b → WroteEntry {T = T} spelling bytes s change (Err error.Memory) after a b
   wanted_in {T = T} after change a b tied meanwhile = elim change as (λ r. change ≡ r → WroteEntry {T = T} spelling bytes s change (Err error.Memory) after a b) [
-    | Ok to ↦ λ is. turns to is tt (record { meanwhile = meanwhile_weaker Map _ a b meanwhile (λ image map. inl map); wanted = λ _. meanwhile; done = tt; refused = λ _. tied })
+    | Ok to ↦ λ is. turns to is tt (record { meanwhile = meanwhile_weaker Own _ a b meanwhile (λ image map. inl map); wanted = λ _. meanwhile; done = tt; refused = λ _. tied })
     | Err why ↦ λ is. refused why is refl (inr refl) tied meanwhile
   ] refl
 
-  pub wanted : {T : Type 0} (change : Result State Reply) (a b : World) → Represents spelling bytes store s b → Meanwhile Map a b → WroteEntry {T = T} spelling bytes s change (Err error.Memory) store a b
+  pub wanted : {T : Type 0} (change : Result State Reply) (a b : World) → Represents spelling bytes store s b → Meanwhile Own a b → WroteEntry {T = T} spelling bytes s change (Err error.Memory) store a b
   wanted change a b tied meanwhile = wanted_in store change a b tied meanwhile
 
   -- with room for more tables
@@ -98,20 +107,24 @@ module _ (spelling : Spelling) (bytes : FilterBytes) (store : StoreValue) (s : S
   pub nothing_to_flush : {T : Type 0} (x : T) (w : World) → IsConsistent store → Represents spelling bytes store s w → store.memory.entries ≡ [] → WroteEntry spelling bytes s (flushed bytes s) (Ok x) store w w
   nothing_to_flush x w whole tied none =
       turns s (flushed_none bytes s (sym tied.memory ∙ none)) tt
-      (record { meanwhile = meanwhile_weaker Map _ w w (stands_now whole w tied) (λ image map. inl map); wanted = tt; done = tied; refused = tt })
+      (record { meanwhile = meanwhile_weaker Own _ w w (stands_now whole w tied) (λ image map. inl map); wanted = tt; done = tied; refused = tt })
 
-  module _ (a : World) (current : a.leaves a.moment a.seen.held) (tied : Represents spelling bytes store s a) (some : store.memory.entries ≢ []) where
+  -- what is flushed are the memory entries of the state with another log
+  module _ (a : World) (current : a.leaves a.moment a.seen.held) (tied : Represents spelling bytes store s a) (records entries : List Entry) (are : entries ≡ newest_entries records) (some : entries ≢ []) where
+    abbrev over : State
+    over = record s { log = records }
+
     abbrev v : Version
     v = store.manifest.version
 
     agrees : Agree v (outputs_in store.job) s
     agrees = tied_agree spelling bytes store s a current tied
 
-    some_memory : memory s ≢ []
-    some_memory none = some (tied.memory ∙ none)
+    some_memory : newest_entries records ≢ []
+    some_memory none = some (are ∙ none)
 
-    need_is : table_pages bytes s.settings (memory s) ≡ need_under bytes v store.memory.entries
-    need_is = ap (λ (st : Settings). table_pages bytes st (memory s)) agrees.settings ∙ ap (table_pages bytes (settings_of v)) (sym tied.memory)
+    need_is : table_pages bytes s.settings (newest_entries records) ≡ need_under bytes v entries
+    need_is = ap (λ (st : Settings). table_pages bytes st (newest_entries records)) agrees.settings ∙ ap (table_pages bytes (settings_of v)) (sym are)
 
     largest_is : largest_gap s.pages (taken s) ≡ largest_gap v.pages (extents_with v (outputs_in store.job))
     largest_is = ap (λ (n : ℕ). largest_gap n (taken s)) agrees.pages ∙ ap (largest_gap v.pages) agrees.taken_is
@@ -124,23 +137,23 @@ module _ (spelling : Spelling) (bytes : FilterBytes) (store : StoreValue) (s : S
 
     -- ---- nothing is planned
 
-    many_refuse : 1024 ≤ length v.rows → flushed bytes s ≡ Err ManyTables
-    many_refuse many = over_tables bytes s (omega (arith, many, agrees.many)) some_memory
+    many_refuse : 1024 ≤ length v.rows → flushed bytes over ≡ Err ManyTables
+    many_refuse many = over_tables bytes over (omega (arith, many, agrees.many)) some_memory
 
-    full_refuses : (need gap : ℕ) → length v.rows < 1024 → need ≡ need_under bytes v store.memory.entries → gap ≡ largest_gap v.pages (extents_with v (outputs_in store.job))
-        → largest_gap v.pages (extents_with v (outputs_in store.job)) < need_under bytes v store.memory.entries → flushed bytes s ≡ Err (Full need gap)
+    full_refuses : (need gap : ℕ) → length v.rows < 1024 → need ≡ need_under bytes v entries → gap ≡ largest_gap v.pages (extents_with v (outputs_in store.job))
+        → largest_gap v.pages (extents_with v (outputs_in store.job)) < need_under bytes v entries → flushed bytes over ≡ Err (Full need gap)
     full_refuses need gap less need_so gap_so wide =
-        let none = gap_small s.pages (taken s) (table_pages bytes s.settings (memory s)) (omega (arith, wide, need_is, largest_is)) in
-        flushed_full bytes s some_memory (few less) none
+        let none = gap_small s.pages (taken s) (table_pages bytes s.settings (newest_entries records)) (omega (arith, wide, need_is, largest_is)) in
+        flushed_full bytes over some_memory (few less) none
         ∙ ap (λ (n : ℕ). Err (Full n (largest_gap s.pages (taken s)))) (need_is ∙ sym need_so)
         ∙ ap (λ (g : ℕ). Err (Full need g)) (largest_is ∙ sym gap_so)
 
-    last_refuses : length v.rows < 1024 → need_under bytes v store.memory.entries ≤ largest_gap v.pages (extents_with v (outputs_in store.job)) → v.epoch ≡ last_epoch → flushed bytes s ≡ Err LastEpoch
+    last_refuses : length v.rows < 1024 → need_under bytes v entries ≤ largest_gap v.pages (extents_with v (outputs_in store.job)) → v.epoch ≡ last_epoch → flushed bytes over ≡ Err LastEpoch
     last_refuses less room last =
-        flushed_last bytes s some_memory (few less) (omega (arith, room, need_is, largest_is)) (eq_true s.epoch last_epoch (omega (arith, agrees.epoch, last, last_is)))
+        flushed_last bytes over some_memory (few less) (omega (arith, room, need_is, largest_is)) (eq_true s.epoch last_epoch (omega (arith, agrees.epoch, last, last_is)))
 
-    pub plan_refused : {T : Type 0} (whole : IsConsistent store) (x : StoreError) → IsPlanRefusal bytes v (outputs_in store.job) store.memory.entries x → WroteEntry {T = T} spelling bytes s (flushed bytes s) (Err x) store a a
-    plan_refused whole error.Memory why = wanted (flushed bytes s) a a tied (stands_now whole a tied)
+    pub plan_refused : {T : Type 0} (whole : IsConsistent store) (x : StoreError) → IsPlanRefusal bytes v (outputs_in store.job) entries x → WroteEntry {T = T} spelling bytes s (flushed bytes over) (Err x) store a a
+    plan_refused whole error.Memory why = wanted (flushed bytes over) a a tied (stands_now whole a tied)
     plan_refused whole (error.Limit limit.Tables) why = refused ManyTables (many_refuse why) refl (inl refl) tied (stands_now whole a tied)
     plan_refused whole (error.Limit limit.Epoch) why = refused LastEpoch (last_refuses why.0 why.1 why.2) refl (inl refl) tied (stands_now whole a tied)
     plan_refused whole (error.Full need gap) why =
@@ -153,6 +166,12 @@ module _ (spelling : Spelling) (bytes : FilterBytes) (store : StoreValue) (s : S
     plan_refused whole error.NotAStore why = absurd why
     plan_refused whole error.AlreadyAStore why = absurd why
     plan_refused whole (error.BadSettings field) why = absurd why
+
+-- what is made of the state that differs in its log is made of that with what is flushed
+pub wrote_over : {T : Type 0} (spelling : Spelling) (bytes : FilterBytes) (s : State) (over : Option Entry) (r : Result T StoreError) (after : StoreValue) (a b : World)
+    → WroteEntry spelling bytes s (flushed bytes (record s { log = (state_with s over).log })) r after a b → WroteEntry spelling bytes s (flushed bytes (state_with s over)) r after a b
+wrote_over spelling bytes s None r after a b wrote = wrote
+wrote_over spelling bytes s (Some e) r after a b wrote = wrote
 
 -- ---- what is planned
 
@@ -169,36 +188,53 @@ module _ (spelling : Spelling) (built_cutoff : ℕ → List Leaf → ℕ) (m : M
   row_within is laid next_is fits = omega (arith, fits, next_is.few_pages, pages_are spelling built_cutoff m outputs entries parts row next is laid plan)
 
 module _ (spelling : Spelling) (built_cutoff : ℕ → List Leaf → ℕ) (store : StoreValue) (s : State) (a b : World) (current : a.leaves a.moment a.seen.held)
-    (tied : Represents spelling (filter_bytes_of spelling built_cutoff) store s a) (some : store.memory.entries ≢ []) (parts : Built) (row : Row) (next : Manifest)
-    (plan : IsPlan spelling built_cutoff store.manifest (outputs_in store.job) store.memory.entries parts row next) where
+    (tied : Represents spelling (filter_bytes_of spelling built_cutoff) store s a) (records entries : List Entry) (are : entries ≡ newest_entries records) (some : entries ≢ []) (parts : Built) (row : Row) (next : Manifest)
+    (plan : IsPlan spelling built_cutoff store.manifest (outputs_in store.job) entries parts row next) where
+  abbrev behind : State
+  behind = record s { log = records }
+
   abbrev bytes : FilterBytes
   bytes = filter_bytes_of spelling built_cutoff
 
   abbrev Before : Image → Type 0
   Before = StandsForMap spelling (state_map s)
 
-  pub plan_of_memory : IsPlan spelling built_cutoff store.manifest (outputs_in store.job) (memory s) parts row next
-  plan_of_memory = subst (λ (es : List Entry). IsPlan spelling built_cutoff store.manifest (outputs_in store.job) es parts row next) tied.memory plan
+  pub plan_of_records : IsPlan spelling built_cutoff store.manifest (outputs_in store.job) (newest_entries records) parts row next
+  plan_of_records = subst (λ (es : List Entry). IsPlan spelling built_cutoff store.manifest (outputs_in store.job) es parts row next) are plan
 
   abbrev to : State
-  to = flushed_at bytes row.first_page s
+  to = flushed_at bytes row.first_page (record s { log = records })
 
-  planned : flushed bytes s ≡ Ok to
-  planned =
-      let less = few spelling bytes store s a current tied some plan.few in
-      let need_so = need_is spelling bytes store s a current tied some in
-      let here = first_is spelling bytes store s a current tied some (table_pages bytes s.settings (memory s))
-      ∙ ap (first_gap store.manifest.version.pages (extents_with store.manifest.version (outputs_in store.job))) need_so ∙ plan.place in
-      let epoch_is = (agrees spelling bytes store s a current tied some).epoch in
-      flushed_done bytes s (some_memory spelling bytes store s a current tied some) less row.first_page here (below s.epoch last_epoch (omega (arith, epoch_is, plan.epoch, last_is)))
+  -- the first gap is that of the state, too
+  placed_there : first_gap s.pages (taken s) (table_pages bytes s.settings (newest_entries records)) ≡ Some row.first_page
+  placed_there =
+      let need_so = need_is spelling bytes store s a current tied records entries are some in
+      first_is spelling bytes store s a current tied records entries are some (table_pages bytes s.settings (newest_entries records))
+      ∙ ap (first_gap store.manifest.version.pages (extents_with store.manifest.version (outputs_in store.job))) need_so ∙ plan.place
 
-  pub flush_done : {T U : Type 0} (x : T) (y : U) (after : StoreValue) → FlushedTo spelling built_cutoff store s parts row next (Ok x) a b → after.manifest ≡ installed_manifest next
-      → after.tables ≡ opened_of built_cutoff parts row ∷ store.tables → after.job ≡ store.job → after.blocks ≡ store.blocks → IsConsistent store → after.log.filled ≡ 0 → after.memory.entries ≡ [] → WroteEntry spelling bytes s (flushed bytes s) (Ok y) after a b
-  flush_done x y after replaces manifest_is tables_are same_job blocks_are whole begun cleared = turns to planned tt (record {
-    meanwhile = meanwhile_weaker Before _ a b replaces.meanwhile (λ image map. inl map);
+  less : length s.tables < 1024
+  less = few spelling bytes store s a current tied records entries are some plan.few
+
+  left : s.epoch < last_epoch
+  left =
+      let epoch_is = (agrees spelling bytes store s a current tied records entries are some).epoch in
+      omega (arith, epoch_is, plan.epoch, last_is)
+
+  planned : flushed bytes behind ≡ Ok to
+  planned = flushed_done bytes behind (some_memory spelling bytes store s a current tied records entries are some) less row.first_page placed_there (below s.epoch last_epoch left)
+
+  -- the map behind the flush is that with what was flushed
+  same_map : (image : Image) → Before image ⊎ StandsForMap spelling (state_map behind) image → Before image ⊎ StandsForMap spelling (state_map to) image
+  same_map image (inl map) = inl map
+  same_map image (inr map) = inr (subst (λ (m : Map). StandsForMap spelling m image) (sym (flushed_keeps bytes behind to planned)) map)
+
+  pub flush_done : {T U : Type 0} (x : T) (y : U) (after : StoreValue) → IsTable (newest_entries records) → FlushedTo spelling built_cutoff store s behind parts row next (Ok x) a b → after.manifest ≡ installed_manifest next
+      → after.tables ≡ opened_of built_cutoff parts row ∷ store.tables → after.job ≡ store.job → after.blocks ≡ store.blocks → IsConsistent store → after.log.filled ≡ 0 → after.memory.entries ≡ [] → WroteEntry spelling bytes s (flushed bytes behind) (Ok y) after a b
+  flush_done x y after table replaces manifest_is tables_are same_job blocks_are whole begun cleared = turns to planned tt (record {
+    meanwhile = meanwhile_weaker _ _ a b replaces.meanwhile same_map;
     wanted = tt;
     done = record {
-      sound = flushed_sound bytes s to tied.sound planned;
+      sound = placed_sound bytes s (newest_entries records) row.first_page tied.sound table less left placed_there;
       none_kept = tied.none_kept;
       images = λ image left.
           subst (λ (ts : List Opened). RepresentsOn spelling after.manifest ts after.job to image) (sym tables_are)
@@ -208,7 +244,7 @@ module _ (spelling : Spelling) (built_cutoff : ℕ → List Leaf → ℕ) (store
       memory = cleared;
       blocks = subst (λ (b : Cached). CacheAgrees b after.tables to.tables) (sym blocks_are)
           (subst (λ (ts : List Opened). CacheAgrees store.blocks ts to.tables) (sym tables_are)
-          (true_in_front store.blocks (opened_of built_cutoff parts row) store.tables (table_of bytes s.settings 0 row.first_page (memory s)) s.tables whole.numbered tied.blocks));
+          (true_in_front store.blocks (opened_of built_cutoff parts row) store.tables (table_of bytes s.settings 0 row.first_page (newest_entries records)) s.tables whole.numbered tied.blocks));
     };
     refused = tt;
   })
@@ -228,11 +264,11 @@ module _ (spelling : Spelling) (built_cutoff : ℕ → List Leaf → ℕ) (store
     blocks = subst (λ (b : Cached). CacheAgrees b after.tables s.tables) (sym same_blocks) (subst (λ (ts : List Opened). CacheAgrees store.blocks ts s.tables) (sym same_tables) tied.blocks);
   }
 
-  flush_stops : {T U : Type 0} (f : ManifestFault) (x : StoreError) (after : StoreValue) → FlushedTo {T = T} spelling built_cutoff store s parts row next (Err f) a b → IsFailure x → after.stopped ≡ true
-      → WroteEntry {T = U} spelling bytes s (flushed bytes s) (Err x) after a b
-  flush_stops f x after replaces fails stopped = turns to planned fails (record {
-    meanwhile = meanwhile_weaker Before _ a b replaces.meanwhile (λ image map. inl map);
-    wanted = λ _. replaces.meanwhile;
+  flush_stops : {T U : Type 0} (f : ManifestFault) (cause : DiskFault) (after : StoreValue) → FlushedTo {T = T} spelling built_cutoff store s behind parts row next (Err f) a b → after.stopped ≡ true
+      → WroteEntry {T = U} spelling bytes s (flushed bytes behind) (Err (error.Device cause)) after a b
+  flush_stops f cause after replaces stopped = turns to planned tt (record {
+    meanwhile = meanwhile_weaker _ _ a b replaces.meanwhile same_map;
+    wanted = λ is. absurd (no_memory cause is);
     done = tt;
     refused = λ runs. absurd (never after.stopped stopped runs);
   })
@@ -240,20 +276,20 @@ module _ (spelling : Spelling) (built_cutoff : ℕ → List Leaf → ℕ) (store
   module _ (after : StoreValue) (same_manifest : after.manifest ≡ store.manifest) (same_tables : after.tables ≡ store.tables) (same_job : after.job ≡ store.job) (same_log : after.log ≡ store.log) (same_memory : after.memory ≡ store.memory)
       (same_blocks : after.blocks ≡ store.blocks) where
     -- nothing was written
-    by_memory : {T U : Type 0} → FlushedTo {T = T} spelling built_cutoff store s parts row next (Err fault.Memory) a b → WroteEntry {T = U} spelling bytes s (flushed bytes s) (Err error.Memory) after a b
+    by_memory : {T U : Type 0} → FlushedTo {T = T} spelling built_cutoff store s behind parts row next (Err fault.Memory) a b → WroteEntry {T = U} spelling bytes s (flushed bytes behind) (Err error.Memory) after a b
     by_memory replaces =
-        wanted spelling bytes after s (flushed bytes s) a b (tied_at after same_manifest same_tables same_job same_log same_memory same_blocks (replaces.wanted refl)) replaces.meanwhile
+        wanted spelling bytes after s (flushed bytes behind) a b (tied_at after same_manifest same_tables same_job same_log same_memory same_blocks (replaces.wanted refl)) (replaces.unmoved refl)
 
-    told_as : {T U : Type 0} (f : ManifestFault) → FlushedTo {T = T} spelling built_cutoff store s parts row next (Err f) a b → IsFlushFault a b f
-        → after.stopped ≡ stops (of_manifest_fault f) → WroteEntry {T = U} spelling bytes s (flushed bytes s) (Err (of_manifest_fault f)) after a b
+    told_as : {T U : Type 0} (f : ManifestFault) → FlushedTo {T = T} spelling built_cutoff store s behind parts row next (Err f) a b → IsFlushFault a b f
+        → after.stopped ≡ stops (of_manifest_fault f) → WroteEntry {T = U} spelling bytes s (flushed bytes behind) (Err (of_manifest_fault f)) after a b
     told_as fault.Memory replaces why stopped = by_memory replaces
-    told_as (fault.Device cause) replaces why stopped = flush_stops (fault.Device cause) (error.Device cause) after replaces tt (stopped ∙ why.0)
+    told_as (fault.Device cause) replaces why stopped = flush_stops (fault.Device cause) cause after replaces (stopped ∙ why.0)
     told_as fault.NotAStore replaces why stopped = absurd why
     told_as fault.AlreadyAStore replaces why stopped = absurd why
     told_as fault.Epoch replaces why stopped = absurd why
     told_as (fault.Damaged damage) replaces why stopped = absurd why
 
-    pub flush_failed : {T U : Type 0} (f : ManifestFault) (x : StoreError) → x ≡ of_manifest_fault f → FlushedTo {T = T} spelling built_cutoff store s parts row next (Err f) a b
-        → IsFlushFault a b f → after.stopped ≡ stops x → WroteEntry {T = U} spelling bytes s (flushed bytes s) (Err x) after a b
+    pub flush_failed : {T U : Type 0} (f : ManifestFault) (x : StoreError) → x ≡ of_manifest_fault f → FlushedTo {T = T} spelling built_cutoff store s behind parts row next (Err f) a b
+        → IsFlushFault a b f → after.stopped ≡ stops x → WroteEntry {T = U} spelling bytes s (flushed bytes behind) (Err x) after a b
     flush_failed {U = U} f x is replaces why stopped =
-        subst (λ (e : StoreError). WroteEntry {T = U} spelling bytes s (flushed bytes s) (Err e) after a b) (sym is) (told_as f replaces why (stopped ∙ ap stops is))
+        subst (λ (e : StoreError). WroteEntry {T = U} spelling bytes s (flushed bytes behind) (Err e) after a b) (sym is) (told_as f replaces why (stopped ∙ ap stops is))

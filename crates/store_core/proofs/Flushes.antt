@@ -1,6 +1,6 @@
 -- The table of a plan is written, the other log is begun, and the version is installed: what a crash leaves meanwhile.
-use Rattle.std.proofs.Common.{◌≡◌, inl, inr, ◌≤◌, ◌<◌, ◌+◌, ◌-◌, ◌*◌, ◌∙◌, ℕ, false, true, List, [], ◌∷◌, length, refl, sym, ap, ap₂, subst, arith}
-use Rattle.std.specs.Prelude.{◌≢◌, Some, Result, Ok, Err, IsErr, IfErr, OnOk, ◌==◌}
+use Rattle.std.proofs.Common.{◌≡◌, ◌⊎◌, inl, inr, ◌≤◌, ◌<◌, ◌+◌, ◌-◌, ◌*◌, ◌∙◌, ℕ, false, true, List, [], ◌∷◌, length, refl, sym, ap, ap₂, subst, arith}
+use Rattle.std.specs.Prelude.{◌≢◌, Some, Result, Ok, Err, IsErr, IfErr, OnOk, nat_lt, ◌==◌}
 use Rattle.std.specs.List.{AllByRecursion}
 use Rattle.std.specs.Result.{IsErrAnd}
 use Rattle.std.proofs.lemmas.Bool.{ne_eqb}
@@ -8,13 +8,15 @@ use Rattle.std.proofs.lemmas.List.{length-map}
 use Rattle.block_model.specs.Pages.{index_length, pages_for}
 use Rattle.block_model.specs.Places.{byte_of_page}
 use Rattle.byte_fields.specs.declared.parts.Row.{Row}
-use Rattle.disk_trait.specs.Image.{Image, Torn}
-use Rattle.disk_trait.specs.World.{Leads, Now, ReadMoves, Rose, World, WriteMoves}
+use Rattle.disk_trait.specs.Image.{Image, Same, Torn}
+use Rattle.disk_trait.specs.World.{Leads, Meanwhile, Now, ReadMoves, Rose, World, WriteMoves}
 use Rattle.disk_trait.specs.declared.fault.DiskFault.{DiskFault}
 use Rattle.disk_trait.proofs.Calls.{leads_around, leads_framed, leads_then, leads_weaker, on_ok_two, reads_keep}
-use Rattle.disk_trait.proofs.Moments.{meanwhile_weaker}
+use Rattle.disk_trait.proofs.Moments.{in_call, meanwhile_then, meanwhile_weaker}
 use Rattle.entry_model.specs.Entries.{Entry}
+use Rattle.entry_model.specs.Newest.{newest_entries}
 use Rattle.extent_model.proofs.Free.{gap_is_free}
+use Rattle.extent_model.proofs.Lists.{all_pairs, pairs_of}
 use Rattle.extent_model.specs.Extents.{AreApart, Extent, IsOnDevice}
 use Rattle.extent_model.specs.Gaps.{first_gap}
 use Rattle.filter_api.specs.Spellings.{Spelling}
@@ -36,11 +38,11 @@ use Rattle.manifest_model.specs.Installs.{Install, IsInstalled, IsOldOrNew, MayI
 use Rattle.manifest_model.specs.Laws.{IsVersion}
 use Rattle.manifest_model.specs.Version.{Version, log_page_of}
 use Rattle.state_model.proofs.Kept.{flushed_keeps}
-use Rattle.state_model.proofs.SoundChanges.{flushed_sound}
 use Rattle.state_model.specs.Changes.{flushed}
+use Rattle.state_model.specs.Sound.{StandsBefore}
 use Rattle.state_model.specs.State.{State}
 use Rattle.state_model.specs.Taken.{taken}
-use Rattle.state_model.specs.View.{memory, state_map}
+use Rattle.state_model.specs.View.{state_map}
 use Rattle.table_file.specs.Building.{Built}
 use Rattle.table_file.specs.Opened.{Opened}
 use Rattle.table_file.specs.Writing.{IsWriteOf, StandsWith, made_row}
@@ -77,6 +79,10 @@ not_ok : {T E : Type 0} (R : Type 0) (r : Result T E) → IsErr r → OnOk r R
 not_ok R (Ok v) failed = absurd cc
 not_ok R (Err e) failed = tt
 
+-- what holds where reads begin holds meanwhile
+reads_meanwhile : (P : Image → Type 0) (n : ℕ) (a b : World) → ReadMoves n a b → Now P a → Meanwhile P a b
+reads_meanwhile P n a b moves here = in_call P Same a b here moves.time (λ was image left same. subst P (sym same) (here was left))
+
 -- ---- faults of the device
 
 pub no_want : {T : Type 0} (f : DiskFault) (r : Result T ManifestFault) → IsErrAnd r (λ why. why ≡ fault.Device f) → IfErr r (λ why. why ≢ fault.Memory)
@@ -102,8 +108,23 @@ device_cause f (Err e) old new is writes rose = subst (IsFlushFault old new) (sy
 never_memory : {T : Type 0} (P : Type 0) (r : Result T ManifestFault) → IfErr r (λ why. why ≢ fault.Memory) → IfErr r (λ why. why ≡ fault.Memory → P)
 never_memory P r other = if_err (λ why. why ≢ fault.Memory) (λ why. why ≡ fault.Memory → P) r (λ why never is. absurd (never is)) other
 
-module _ (image_law : OtherImageIsFollowed) (flush_law : FlushedIsFollowed) (spelling : Spelling) (built_cutoff : ℕ → List Leaf → ℕ) (store : StoreValue) (s : State) (parts : Built) (row : Row) (next : Manifest)
-    (whole : IsConsistent store) (plan : IsPlan spelling built_cutoff store.manifest (outputs_in store.job) (memory s) parts row next) where
+-- a table of level 0 stands before all
+pub first_of_all : (t : Table) (tables : List Table) → t.level ≡ 0 → AllByRecursion (StandsBefore t) tables
+first_of_all t [] zero_level = tt
+first_of_all t (u ∷ more) zero_level = (
+  elim (nat_lt 0 u.level) as (λ b. nat_lt 0 u.level ≡ b → StandsBefore t u) [
+    | true ↦ λ e. inl (grind arith)
+    | false ↦ λ e. inr (grind arith, inl zero_level)
+  ] refl,
+  first_of_all t more zero_level,
+)
+
+-- of a state with another log, whose memory entries are what is flushed
+module _ (image_law : OtherImageIsFollowed) (flush_law : FlushedIsFollowed) (spelling : Spelling) (built_cutoff : ℕ → List Leaf → ℕ) (store : StoreValue) (s : State) (records : List Entry) (parts : Built) (row : Row) (next : Manifest)
+    (whole : IsConsistent store) (plan : IsPlan spelling built_cutoff store.manifest (outputs_in store.job) (newest_entries records) parts row next) where
+  abbrev over : State
+  over = record s { log = records }
+
   abbrev filter_bytes : FilterBytes
   filter_bytes = filter_bytes_of spelling built_cutoff
 
@@ -118,10 +139,10 @@ module _ (image_law : OtherImageIsFollowed) (flush_law : FlushedIsFollowed) (spe
 
   -- the table that is made, the state and the manifest behind the flush
   abbrev made : Table
-  made = table_of (filter_bytes_of spelling built_cutoff) s.settings 0 row.first_page (memory s)
+  made = table_of (filter_bytes_of spelling built_cutoff) s.settings 0 row.first_page (newest_entries records)
 
   abbrev to : State
-  to = flushed_at (filter_bytes_of spelling built_cutoff) row.first_page s
+  to = flushed_at (filter_bytes_of spelling built_cutoff) row.first_page (record s { log = records })
 
   abbrev new : Manifest
   new = next_manifest store.manifest row
@@ -131,6 +152,10 @@ module _ (image_law : OtherImageIsFollowed) (flush_law : FlushedIsFollowed) (spe
 
   abbrev Under : Image → Type 0
   Under = RepresentsOn spelling store.manifest store.tables store.job s
+
+  -- the map of the state, or that with what is flushed
+  abbrev Either : Image → Type 0
+  Either image = StandsForMap spelling (state_map s) image ⊎ StandsForMap spelling (state_map over) image
 
   abbrev Held : Image → Type 0
   Held = TableAgrees spelling (opened_of built_cutoff parts row) made
@@ -150,20 +175,20 @@ module _ (image_law : OtherImageIsFollowed) (flush_law : FlushedIsFollowed) (spe
     settings_are : parts.settings ≡ s.settings
     settings_are = ap (λ (b : Built). b.settings) plan.parts_are ∙ sym agrees.settings
 
-    entries_are : parts.entries ≡ memory s
+    entries_are : parts.entries ≡ newest_entries records
     entries_are = ap (λ (b : Built). b.entries) plan.parts_are
 
     few : length s.tables < 1024
     few = omega (arith, plan.few, agrees.many)
 
     -- the pages of the table are free
-    gap : first_gap s.pages (taken s) (table_pages (filter_bytes_of spelling built_cutoff) s.settings (memory s)) ≡ Some row.first_page
+    gap : first_gap s.pages (taken s) (table_pages (filter_bytes_of spelling built_cutoff) s.settings (newest_entries records)) ≡ Some row.first_page
     gap =
-        ap₂ (λ (n : ℕ) (es : List Extent). first_gap n es (table_pages filter_bytes s.settings (memory s))) agrees.pages agrees.taken_is
-        ∙ ap (λ (set : Settings). first_gap v.pages (extents_with v (outputs_in store.job)) (table_pages filter_bytes set (memory s))) agrees.settings
+        ap₂ (λ (n : ℕ) (es : List Extent). first_gap n es (table_pages filter_bytes s.settings (newest_entries records))) agrees.pages agrees.taken_is
+        ∙ ap (λ (set : Settings). first_gap v.pages (extents_with v (outputs_in store.job)) (table_pages filter_bytes set (newest_entries records))) agrees.settings
         ∙ plan.place
 
-    need_is : table_pages (filter_bytes_of spelling built_cutoff) s.settings (memory s) ≡ need
+    need_is : table_pages (filter_bytes_of spelling built_cutoff) s.settings (newest_entries records) ≡ need
     need_is = ap₂ (λ (set : Settings) (es : List Entry). table_pages filter_bytes set es) (sym settings_are) (sym entries_are)
 
     free : IsOnDevice s.pages (row.first_page, need) × AllByRecursion (AreApart (row.first_page, need)) (taken s)
@@ -206,12 +231,13 @@ module _ (image_law : OtherImageIsFollowed) (flush_law : FlushedIsFollowed) (spe
 
     pub no_table : {T U E : Type 0} (first : Result T E) (result : Result U ManifestFault) (b : World) → WriteMoves (byte_of_page row.first_page) (4096 * need) a b
         → OnOk first (Now IsThere b) → OnOk first (Now IsOpenThere b) → IsErr result → IfErr result (λ why. why ≢ fault.Memory)
-        → FlushedTo spelling built_cutoff store s parts row next result a b
+        → FlushedTo spelling built_cutoff store s over parts row next result a b
     no_table first result b moves is stands failed other_cause = record {
-      meanwhile = meanwhile_weaker Under (StandsForMap spelling (state_map s)) a b ((table_leads first b moves is stands).meanwhile tied.images)
-          (under_stands spelling store.manifest store.tables store.job whole.slot whole.rows s);
+      meanwhile = meanwhile_weaker Under Either a b ((table_leads first b moves is stands).meanwhile tied.images)
+          (λ image under. inl (under_stands spelling store.manifest store.tables store.job whole.slot whole.rows s image under));
       done = not_ok _ result failed;
       wanted = never_memory (Now Under b) result other_cause;
+      unmoved = never_memory (Meanwhile (StandsForMap spelling (state_map s)) a b) result other_cause;
     }
 
     -- ---- the log
@@ -257,10 +283,10 @@ module _ (image_law : OtherImageIsFollowed) (flush_law : FlushedIsFollowed) (spe
                 (unnamed_apart s (other_place m.slot) 131072 tied.sound.on_device (omega (arith, before))) here.5,
           )
 
-      is_flushed : (image : Image) → Held image → flushed (filter_bytes_of spelling built_cutoff) s ≡ Ok to
+      is_flushed : (image : Image) → Held image → flushed (filter_bytes_of spelling built_cutoff) over ≡ Ok to
       is_flushed image held =
-          let some : 1 ≤ length (memory s) = omega (arith, held.stands.at.table.some, ap (λ (t : Table). length t.entries) held.table_is) in
-          flushed_done filter_bytes s (λ none. absurd (omega (arith, some, ap length none))) few row.first_page gap (below_last s.epoch (omega (arith, plan.epoch, agrees.epoch)))
+          let some : 1 ≤ length (newest_entries records) = omega (arith, held.stands.at.table.some, ap (λ (t : Table). length t.entries) held.table_is) in
+          flushed_done filter_bytes over (λ none. absurd (omega (arith, some, ap length none))) few row.first_page gap (below_last s.epoch (omega (arith, plan.epoch, agrees.epoch)))
 
       new_named : (image : Image) → IsNamedBy spelling v (as_shown s) image → Held image → LogIs area [] image → IsNamedBy spelling (raised new.version) (as_shown to) image
       new_named image named held log = record {
@@ -268,7 +294,7 @@ module _ (image_law : OtherImageIsFollowed) (flush_law : FlushedIsFollowed) (spe
         pages = named.pages;
         epoch = ap (λ (n : ℕ). n + 1) named.epoch;
         tables = ((held.blocks, held.stands.at, held.table_is), named.tables);
-        order = (flushed_sound filter_bytes s to tied.sound (is_flushed image held)).order;
+        order = all_pairs StandsBefore (made ∷ s.tables) (first_of_all made s.tables refl, pairs_of StandsBefore s.tables tied.sound.order);
         area = area;
         area_is = page_is;
         log = log;
@@ -276,10 +302,10 @@ module _ (image_law : OtherImageIsFollowed) (flush_law : FlushedIsFollowed) (spe
         none_kept = refl;
       }
 
-      maps : (image : Image) → Behind image × IsOldOrNew i image → StandsForMap spelling (state_map s) image
-      maps image (here, inl old) = (s, (v, record { version_is = old; named = here.0 }), refl)
+      maps : (image : Image) → Behind image × IsOldOrNew i image → Either image
+      maps image (here, inl old) = inl (s, (v, record { version_is = old; named = here.0 }), refl)
       maps image (here, inr new_there) =
-          (to, (raised new.version, record { version_is = new_there; named = new_named image here.0 here.2 here.3 }), flushed_keeps filter_bytes s to (is_flushed image here.2))
+          inr (to, (raised new.version, record { version_is = new_there; named = new_named image here.0 here.2 here.3 }), flushed_keeps filter_bytes over to (is_flushed image here.2))
 
       many : length store.tables ≡ length s.tables
       many = sym (length-map store.tables (λ (t : Opened). t.row)) ∙ ap (λ (rs : List Row). length rs) whole.rows ∙ sym agrees.many
@@ -301,16 +327,16 @@ module _ (image_law : OtherImageIsFollowed) (flush_law : FlushedIsFollowed) (spe
 
       pub install_leads : {T E : Type 0} (result : Result T E) (c d : World) → MayInstall i → WriteMoves (other_place next.slot) 131072 c d
           → Leads (StandsInSlot next.slot next.other_open v) (IsOldOrNew (install_of next v)) (IsInstalled (install_of next v)) result c d
-          → Leads (λ image. (Under image × Held image) × LogIs area [] image) (StandsForMap spelling (state_map s))
+          → Leads (λ image. (Under image × Held image) × LogIs area [] image) Either
           (RepresentsOn spelling (installed_manifest next) (opened_of built_cutoff parts row ∷ store.tables) store.job to) result c d
       install_leads result c d may moves leads =
           let moved : WriteMoves (other_place m.slot) 131072 c d = subst (λ (n : Manifest). WriteMoves (other_place n.slot) 131072 c d) plan.next_is moves in
           let own : Leads (StandsInSlot m.slot m.other_open v) (IsOldOrNew i) (IsInstalled i) result c d =
           subst (λ (n : Manifest). Leads (StandsInSlot n.slot n.other_open v) (IsOldOrNew (install_of n v)) (IsInstalled (install_of n v)) result c d) plan.next_is leads in
-          subst (λ (n : Manifest). Leads (λ image. (Under image × Held image) × LogIs area [] image) (StandsForMap spelling (state_map s))
+          subst (λ (n : Manifest). Leads (λ image. (Under image × Held image) × LogIs area [] image) Either
           (RepresentsOn spelling (installed_manifest n) (opened_of built_cutoff parts row ∷ store.tables) store.job to) result c d) (sym plan.next_is)
           (leads_weaker (λ image. Behind image × StandsInSlot m.slot m.other_open v image) (λ image. Behind image × IsOldOrNew i image) (λ image. Behind image × IsInstalled i image)
-          (λ image. (Under image × Held image) × LogIs area [] image) (StandsForMap spelling (state_map s))
+          (λ image. (Under image × Held image) × LogIs area [] image) Either
           (RepresentsOn spelling (installed_manifest new) (opened_of built_cutoff parts row ∷ store.tables) store.job to) result c d
           (leads_framed Behind (StandsInSlot m.slot m.other_open v) (IsOldOrNew i) (IsInstalled i) (other_place m.slot) 131072 result c d slots_keep moved.time own)
           (λ image all. (
@@ -349,31 +375,40 @@ module _ (image_law : OtherImageIsFollowed) (flush_law : FlushedIsFollowed) (spe
             (log_leads result b c log_moves log) (λ f both. both) (λ f both. to_map f both.0) (λ f all. all))
 
         pub no_log : {T U E : Type 0} (first : Result T E) (result : Result U ManifestFault) → OnOk first (Now (LogIs area []) c) → IsErr result → IfErr result (λ why. why ≢ fault.Memory)
-            → FlushedTo spelling built_cutoff store s parts row next result a c
+            → FlushedTo spelling built_cutoff store s over parts row next result a c
         no_log first result log failed other_cause = record {
-          meanwhile = (begun first log).meanwhile tied.images;
+          meanwhile = meanwhile_weaker Map Either a c ((begun first log).meanwhile tied.images) (λ image map. inl map);
           done = not_ok _ result failed;
           wanted = never_memory (Now Under c) result other_cause;
+          unmoved = never_memory (Meanwhile Map a c) result other_cause;
         }
 
         module _ (d : World) (log : Now (LogIs area []) c) (sound : IsVersion next.version) (moves : WriteMoves (other_place next.slot) 131072 c d) where
           all_leads : {T E : Type 0} (first : Result T E) → Leads (StandsInSlot next.slot next.other_open v) (IsOldOrNew (install_of next v)) (IsInstalled (install_of next v)) first c d
-              → Leads Under Map Done first a d
+              → Leads Under Either Done first a d
           all_leads first leads =
-              leads_then {T = Unit {0}} {E = Unit {0}} Under Map Started Map Done tt first a c d (λ f map. map) (begun {T = Unit {0}} {E = Unit {0}} (Ok tt) log) (install_leads first c d (may sound) moves leads)
+              leads_then {T = Unit {0}} {E = Unit {0}} Under Map Started Either Done tt first a c d (λ f map. inl map) (begun {T = Unit {0}} {E = Unit {0}} (Ok tt) log) (install_leads first c d (may sound) moves leads)
+
+          -- where no call was made behind them
+          still_map : ReadMoves 0 c d → Meanwhile Map a d
+          still_map reads =
+              let before = begun {T = Unit {0}} {E = Unit {0}} (Ok tt) log in
+              meanwhile_then Map a c d (before.meanwhile tied.images) (reads_meanwhile Map 0 c d reads (λ image left. to_map image (before.after tied.images image left).0.0))
 
           pub no_install : {T U E : Type 0} (first : Result T E) (result : Result U ManifestFault)
               → Leads (StandsInSlot next.slot next.other_open v) (IsOldOrNew (install_of next v)) (IsInstalled (install_of next v)) first c d
-              → IsErr result → IfErr result (λ why. why ≡ fault.Memory → ReadMoves 0 c d) → FlushedTo spelling built_cutoff store s parts row next result a d
+              → IsErr result → IfErr result (λ why. why ≡ fault.Memory → ReadMoves 0 c d) → FlushedTo spelling built_cutoff store s over parts row next result a d
           no_install first result leads failed still = record {
             meanwhile = (all_leads first leads).meanwhile tied.images;
             done = not_ok _ result failed;
             wanted = if_err (λ why. why ≡ fault.Memory → ReadMoves 0 c d) (λ why. why ≡ fault.Memory → Now Under d) result
                 (λ why reads is image here. (reads_keep Started 0 c d (reads is) ((begun {T = Unit {0}} {E = Unit {0}} (Ok tt) log).after tied.images) image here).0.0) still;
+            unmoved = if_err (λ why. why ≡ fault.Memory → ReadMoves 0 c d) (λ why. why ≡ fault.Memory → Meanwhile Map a d) result
+                (λ why reads is. still_map (reads is)) still;
           }
 
           pub installed : {T U E : Type 0} (x : T) (y : U) → Leads {E = E} (StandsInSlot next.slot next.other_open v) (IsOldOrNew (install_of next v)) (IsInstalled (install_of next v)) (Ok x) c d
-              → FlushedTo spelling built_cutoff store s parts row next (Ok y) a d
+              → FlushedTo spelling built_cutoff store s over parts row next (Ok y) a d
           installed x y leads =
               let all = all_leads (Ok x) leads in
-              record { meanwhile = all.meanwhile tied.images; done = all.after tied.images; wanted = tt }
+              record { meanwhile = all.meanwhile tied.images; done = all.after tied.images; wanted = tt; unmoved = tt }

@@ -29,6 +29,8 @@ pub mod InstallOthers
 pub mod InstallRefusals
 pub mod InstallSteps
 pub mod Limiting
+pub mod LongValues
+pub mod Lookeds
 pub mod Lookings
 pub mod MergedVersions
 pub mod Moved
@@ -37,6 +39,7 @@ pub mod NextVersions
 pub mod OpenedStores
 pub mod OpeningOrder
 pub mod OpeningTables
+pub mod Overs
 pub mod PlannedRows
 pub mod Plans
 pub mod PlansMade
@@ -45,6 +48,7 @@ pub mod RecordsLeft
 pub mod Refusals
 pub mod Resets
 pub mod Runs
+pub mod ScanBlocks
 pub mod ScanBounds
 pub mod ScanCauses
 pub mod ScanCounts

@@ -4,7 +4,7 @@ use Rattle.std.specs.Option.{option_or}
 use Rattle.std.specs.Prelude.{Option, Some, None, nat_lt, ◌==◌, ◌||◌}
 use Rattle.byte_fields.specs.Spelling.{IsBytes}
 use Rattle.disk_trait.specs.World.{Meanwhile, World}
-use Rattle.entry_model.specs.Entries.{IsLogged, bytes_of, entry_of}
+use Rattle.entry_model.specs.Entries.{Entry, IsEntry, IsLogged, bytes_of, entry_of}
 use Rattle.filter_api.specs.Spellings.{Spelling}
 use Rattle.image_model.specs.Stands.{StandsForMap}
 use Rattle.line_model.specs.Limits.{key_limit, limit_of, value_limit}
@@ -68,8 +68,8 @@ of_key key = (
 
 of_value : (value : Bytes) → IsOfEntry (value_limit value)
 of_value value = (
-  by_test (nat_lt 65536 (length value)) (LongValue (length value)) ManyTables (λ e. cc),
-  by_test (nat_lt 65536 (length value)) (LongValue (length value)) LastEpoch (λ e. cc),
+  by_test (nat_lt 1048576 (length value)) (LongValue (length value)) ManyTables (λ e. cc),
+  by_test (nat_lt 1048576 (length value)) (LongValue (length value)) LastEpoch (λ e. cc),
 )
 
 of_first : (a b : Option Reply) → IsOfEntry a → IsOfEntry b → IsOfEntry (option_or a b)
@@ -119,20 +119,21 @@ some_of n is = grind arith
 few_of : (n : ℕ) → (n == 0 || nat_lt 1024 n) ≡ false → n ≤ 1024
 few_of n is = grind arith
 
-short_of : (n : ℕ) → nat_lt 65536 n ≡ false → n ≤ 65536
+short_of : (n : ℕ) → nat_lt 1048576 n ≡ false → n ≤ 1048576
 short_of n is = grind arith
 
-pub is_entry : (key : Bytes) (value : Option Bytes) → key_limit key ≡ None → value_limit (bytes_of value) ≡ None → IsBytes key → IsBytes (bytes_of value) → IsLogged (entry_of key value)
+pub is_entry : (key : Bytes) (value : Option Bytes) → key_limit key ≡ None → value_limit (bytes_of value) ≡ None → IsBytes key → IsBytes (bytes_of value) → IsEntry (entry_of key value)
 is_entry key value key_kept value_kept key_bytes value_bytes =
     let key_so = not_so (length key == 0 || nat_lt 1024 (length key)) (LongKey (length key)) key_kept in
-    let short = short_of (length (bytes_of value)) (not_so (nat_lt 65536 (length (bytes_of value))) (LongValue (length (bytes_of value))) value_kept) in
+    let short = short_of (length (bytes_of value)) (not_so (nat_lt 1048576 (length (bytes_of value))) (LongValue (length (bytes_of value))) value_kept) in
     record {
-      sound = record {
-        some_key = some_of (length key) key_so;
-        short_key = few_of (length key) key_so;
-        short_value = omega (arith, short);
-        key_bytes = key_bytes;
-        value_bytes = value_bytes;
-      };
-      short = short;
+      some_key = some_of (length key) key_so;
+      short_key = few_of (length key) key_so;
+      short_value = short;
+      key_bytes = key_bytes;
+      value_bytes = value_bytes;
     }
+
+-- one whose value is not long is logged
+pub is_logged : (entry : Entry) → IsEntry entry → length (bytes_of entry.value) ≤ 65536 → IsLogged entry
+is_logged entry sound short = record { sound = sound; short = short }

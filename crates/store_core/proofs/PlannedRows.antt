@@ -136,11 +136,11 @@ entries_from_all [] = refl
 entries_from_all (e ∷ more) =
     ap (λ (t : Bool). cond (not t) (e ∷ entries_from more []) (entries_from more [])) (never_before e.key) ∙ ap (λ (es : List Entry). e ∷ es) (entries_from_all more)
 
-each_behind : {X : Type 0} (P : X → Type 0) (xs : List X) (y : X) (ys : List X) → AllByRecursion P (xs ++ y ∷ ys) → P y
+pub each_behind : {X : Type 0} (P : X → Type 0) (xs : List X) (y : X) (ys : List X) → AllByRecursion P (xs ++ y ∷ ys) → P y
 each_behind P [] y ys all = all.0
 each_behind P (x ∷ xs) y ys all = each_behind P xs y ys all.1
 
-front_follows : (test : Bytes → Bool) (a b : List Entry) → Follow test (keys_of (a ++ b)) → Follow test (keys_of a)
+pub front_follows : (test : Bytes → Bool) (a b : List Entry) → Follow test (keys_of (a ++ b)) → Follow test (keys_of a)
 front_follows test [] b f = tt
 front_follows test (e ∷ a) b f = (f.0, front_follows (is_before e.key) a b f.1)
 

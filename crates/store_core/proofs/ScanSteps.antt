@@ -10,7 +10,7 @@ use Rattle.filter_api.specs.Spellings.{Spelling}
 use Rattle.map_model.specs.Slices.{first_pair, is_up_to}
 use Rattle.map_model.specs.SortedMap.{Bytes, Map}
 use Rattle.merge_rows.specs.Merges.{Merge, merged_left, rows_left, sources_above}
-use Rattle.merge_rows.specs.Reads.{wanted}
+use Rattle.merge_rows.specs.Reads.{blocks_left, wanted}
 use Rattle.merge_rows.specs.RowLaws.{MergedLaws}
 use Rattle.merge_rows.specs.Rows.{rows_shown}
 use Rattle.merge_rows.specs.Steps.{HandsOutRow, IsFaultStep, IsPaced, IsRowStep, IsSoundMerge, RowPasses, SourcesStay}
@@ -48,12 +48,13 @@ rows_rise laws m tables image keeps = subst KeysRise (sym (ap (λ (b : Bool). ro
 
 -- ---- so far on the way
 
--- No pair is lost, and what was read is owed no more.
+-- No pair is lost, what was read is owed no more, and so many blocks fewer are left.
 pub record IsUnderWay (tells : Bool) (image : Image) (tables : List Opened) (high : Option Bytes) (old now : Merge) (before after : ℕ) : Type 0 where
   pub kept : SourcesStay tells tables image old now
   pub pairs : IsTrue tells → IsSoundMerge old tables image → pairs_up_to high (rows_left now tables image) ≡ pairs_up_to high (rows_left old tables image)
   pub owed : IsTrue tells → IsSoundMerge old tables image
       → after + all_owed (is_on_the_way high (pairs_up_to high (rows_left old tables image))) now tables image ≤ before + blocks_on_way high old tables image
+  pub spent : IsTrue tells → IsSoundMerge old tables image → after + blocks_left tables now.walks ≤ before + blocks_left tables old.walks
 
 pub stay_then : (tells : Bool) (tables : List Opened) (image : Image) (a b c : Merge) → SourcesStay tells tables image a b → SourcesStay tells tables image b c → SourcesStay tells tables image a c
 stay_then tells tables image a b c first second = record {
@@ -72,6 +73,7 @@ module _ (tells : Bool) (image : Image) (tables : List Opened) (high : Option By
     kept = record { numbers_are = refl; stands_are = refl; drops_are = refl; sound = λ _ sound. sound };
     pairs = λ _ _. refl;
     owed = λ _ _. omega arith;
+    spent = λ _ _. omega arith;
   }
 
   -- ---- a fault on the way: no pair is lost
@@ -79,6 +81,16 @@ module _ (tells : Bool) (image : Image) (tables : List Opened) (high : Option By
   module _ (mid : Merge) (reads : ℕ) (way : IsUnderWay tells image tables high old mid before reads) (next : Merge) where
     pub still_pairs : IsFaultStep tells tables image mid next → IsTrue tells → IsSoundMerge old tables image → pairs_of next ≡ pairs_of old
     still_pairs fault so sound = ap (pairs_up_to high) (fault.rows so (way.kept.sound so sound)) ∙ way.pairs so sound
+
+    -- a step that reads no more than so many blocks fewer are left does so from the first one on
+    pub all_spent : (after : ℕ) → (IsTrue tells → IsSoundMerge mid tables image → after + blocks_left tables next.walks ≤ reads + blocks_left tables mid.walks) → IsTrue tells → IsSoundMerge old tables image
+        → after + blocks_left tables next.walks ≤ before + blocks_left tables old.walks
+    all_spent after spends so sound = omega (arith, spends so (way.kept.sound so sound), way.spent so sound)
+
+    -- one that fails reads no more than are left
+    pub all_tried : (after : ℕ) → (IsTrue tells → IsSoundMerge mid tables image → after ≤ reads + blocks_left tables mid.walks) → IsTrue tells → IsSoundMerge old tables image
+        → after ≤ before + blocks_left tables old.walks
+    all_tried after tries so sound = omega (arith, tries so (way.kept.sound so sound), way.spent so sound)
 
     mid_keeps : mid.drops ≡ false
     mid_keeps = way.kept.drops_are ∙ keeps
@@ -114,11 +126,13 @@ module _ (tells : Bool) (image : Image) (tables : List Opened) (high : Option By
             paid (is_on_the_way high (pairs_of old)) tables image mid next row (paced so mid_keeps) (kept.sound so mid_sound) now passes.0 passes.1 (on_the_way laws row now up none so sound) in
             omega (arith, less, bounded so mid_keeps mid_sound, way.owed so sound)
 
-        pub one_on : MergedLaws → (row : Entry) → next.now ≡ Some row → is_up_to high row.key ≡ true → row.value ≡ None → IsUnderWay tells image tables high old next before after
-        one_on laws row some up none = record {
+        pub one_on : MergedLaws → (row : Entry) → next.now ≡ Some row → is_up_to high row.key ≡ true → row.value ≡ None
+            → (IsTrue tells → IsSoundMerge mid tables image → after + blocks_left tables next.walks ≤ reads + blocks_left tables mid.walks) → IsUnderWay tells image tables high old next before after
+        one_on laws row some up none spends = record {
           kept = stay_then tells tables image old mid next way.kept kept;
           pairs = λ so sound. sym (at_tombstone high row (rows_left mid tables image) (rows_left next tables image) (rows_are row some so sound) up none) ∙ way.pairs so sound;
           owed = on_owed laws row some up none;
+          spent = all_spent after spends;
         }
 
         -- ---- what comes of the pairs

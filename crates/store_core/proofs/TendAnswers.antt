@@ -171,7 +171,7 @@ module _ (spelling : Spelling) (bytes : FilterBytes) (s : State) where
       tended = model.Worked;
       told_is = refl;
       after = with_job s slices.done.later;
-      slice = model.works job slices.done.later runs slices.done.progresses slices.done.said;
+      slice = model.works job slices.done.later runs slices.done.progresses slices.done.said.0 slices.done.said.1;
       crash = slices.meanwhile;
       tied = λ _. slices.done.tied;
     }

@@ -1,6 +1,6 @@
 -- What keeps a store, its device and its state one.
-use Rattle.std.proofs.Common.{◌≡◌, ◌⊎◌, inl, inr, ◌≤◌, ◌+◌, ◌-◌, ◌*◌, ℕ, Bool, true, cond, List, [], ◌∷◌, ◌++◌, refl, sym, ap, subst, ◌∙◌, arith}
-use Rattle.std.specs.Prelude.{Option, Result, Ok, Err, nat_le}
+use Rattle.std.proofs.Common.{◌≡◌, ◌⊎◌, inl, inr, ◌<◌, ◌≤◌, ◌+◌, ◌-◌, ◌*◌, ℕ, Bool, true, false, cond, List, [], ◌∷◌, ◌++◌, length, refl, sym, ap, subst, ◌∙◌, arith}
+use Rattle.std.specs.Prelude.{Option, Result, Ok, Err, nat_le, nat_lt}
 use Rattle.disk_trait.proofs.Calls.{moves_wider}
 use Rattle.std.proofs.lemmas.Bool.{le-leb}
 use Rattle.disk_trait.specs.Image.{Image, Torn}
@@ -8,7 +8,7 @@ use Rattle.disk_trait.specs.declared.fault.DiskFault.{DiskFault}
 use Rattle.disk_trait.specs.World.{Leads, Meanwhile, Now, ReadMoves, World, WriteMoves}
 use Rattle.disk_trait.proofs.Calls.{reads_keep}
 use Rattle.disk_trait.proofs.Moments.{framed, framed_now}
-use Rattle.entry_model.specs.Entries.{Entry, IsLogged, filled, gap, need}
+use Rattle.entry_model.specs.Entries.{Entry, IsLogged, bytes_of, filled, gap, need}
 use Rattle.entry_model.specs.Newest.{newest_entries}
 use Rattle.filter_api.specs.Spellings.{Spelling}
 use Rattle.image_model.specs.Stands.{StandsForMap}
@@ -20,7 +20,7 @@ use Rattle.manifest.specs.Manifest.{Manifest}
 use Rattle.manifest_model.specs.Laws.{IsVersion}
 use Rattle.manifest_model.specs.Version.{Version, log_page_of}
 use Rattle.state_model.proofs.SoundChanges.{written_sound}
-use Rattle.state_model.specs.Changes.{flushed, logged, logged_then, written}
+use Rattle.state_model.specs.Changes.{flushed, is_long, logged, logged_then, written}
 use Rattle.state_model.specs.Sound.{IsSound}
 use Rattle.state_model.specs.State.{State}
 use Rattle.state_model.specs.View.{state_map}
@@ -51,11 +51,32 @@ pub gap_is : (entries : List Entry) → gap entries ≡ 262144 - filled entries
 unfolding gap
 gap_is entries = refl
 
-pub written_fits : (filter_bytes : FilterBytes) (s : State) (e : Entry) → nat_le (need e) (gap s.log) ≡ true → written filter_bytes s e ≡ Ok (logged s e)
-written_fits filter_bytes s e fits = ap (λ (b : Bool). cond b (Ok (logged s e)) (logged_then e (flushed filter_bytes s))) fits
+pub not_long : (n : ℕ) → n ≤ 65536 → nat_lt 65536 n ≡ false
+not_long n short = grind arith
+
+pub long_of : (n : ℕ) → 65536 < n → nat_lt 65536 n ≡ true
+long_of n long = grind arith
+
+-- what the log takes is not long
+pub short_of_logged : (e : Entry) → IsLogged e → is_long e ≡ false
+short_of_logged e is = not_long (length (bytes_of e.value)) is.short
+
+-- and is logged, behind a flush or without
+pub written_short : (filter_bytes : FilterBytes) (s : State) (e : Entry) → is_long e ≡ false
+    → written filter_bytes s e ≡ cond (nat_le (need e) (gap s.log)) (Ok (logged s e)) (logged_then e (flushed filter_bytes s))
+written_short filter_bytes s e short =
+    ap (λ (b : Bool). cond b (flushed filter_bytes (logged s e)) (cond (nat_le (need e) (gap s.log)) (Ok (logged s e)) (logged_then e (flushed filter_bytes s)))) short
+
+-- what it does not take is flushed over the memory entries
+pub written_long : (filter_bytes : FilterBytes) (s : State) (e : Entry) → is_long e ≡ true → written filter_bytes s e ≡ flushed filter_bytes (logged s e)
+written_long filter_bytes s e long =
+    ap (λ (b : Bool). cond b (flushed filter_bytes (logged s e)) (cond (nat_le (need e) (gap s.log)) (Ok (logged s e)) (logged_then e (flushed filter_bytes s)))) long
+
+pub written_fits : (filter_bytes : FilterBytes) (s : State) (e : Entry) → is_long e ≡ false → nat_le (need e) (gap s.log) ≡ true → written filter_bytes s e ≡ Ok (logged s e)
+written_fits filter_bytes s e short fits = written_short filter_bytes s e short ∙ ap (λ (b : Bool). cond b (Ok (logged s e)) (logged_then e (flushed filter_bytes s))) fits
 
 pub logged_sound : (filter_bytes : FilterBytes) (s : State) (e : Entry) → IsSound filter_bytes s → IsLogged e → filled s.log + need e ≤ 262144 → IsSound filter_bytes (logged s e)
-logged_sound filter_bytes s e sound is fits = written_sound filter_bytes s (logged s e) e sound is (written_fits filter_bytes s e (le-leb (need e) (gap s.log) (omega (arith, fits, gap_is s.log))))
+logged_sound filter_bytes s e sound is fits = written_sound filter_bytes s (logged s e) e sound is.sound (written_fits filter_bytes s e (short_of_logged e is) (le-leb (need e) (gap s.log) (omega (arith, fits, gap_is s.log))))
 
 pub filled_logged : (entries : List Entry) (e : Entry) (before after : ℕ) → before ≡ filled entries → after + 1 ≡ before + need e → after ≡ filled (entries ++ e ∷ [])
 filled_logged entries e before after is more = omega (arith, is, more, filled_more entries e)

@@ -11,7 +11,7 @@ use Rattle.image_model.specs.Stands.{StandsForMap}
 use Rattle.map_model.specs.SortedMap.{Map}
 use Rattle.mem_table.specs.Table.{MemoryTable}
 use Rattle.state_model.proofs.Kept.{flushed_keeps}
-use Rattle.state_model.specs.Changes.{flushed, logged, logged_then, written}
+use Rattle.state_model.specs.Changes.{flushed, is_long, logged, logged_then, written}
 use Rattle.state_model.specs.State.{State}
 use Rattle.state_model.specs.View.{state_map}
 use Rattle.table_model.specs.Tables.{FilterBytes}
@@ -20,7 +20,7 @@ use Rattle.store_core.specs.StoreValue.{IsConsistent, StoreValue}
 use Rattle.store_core.specs.Represents.{Represents}
 use Rattle.store_core.specs.declared.error.StoreError.{StoreError}
 use Rattle.store_core.specs.declared.error.StoreError.TheVariants as error
-use Rattle.store_core.proofs.Ties.{gap_is, written_fits}
+use Rattle.store_core.proofs.Ties.{gap_is, written_fits, written_short}
 
 -- ---- a write that failed in the device
 
@@ -112,14 +112,14 @@ module _ (spelling : Spelling) (bytes : FilterBytes) (s : State) (e : Entry) whe
   Maps from to image = StandsForMap spelling (state_map from) image ⊎ StandsForMap spelling (state_map to) image
 
   -- the record fits
-  pub wrote_logged : {T : Type 0} (result : Result T StoreError) (store : StoreValue) (a b : World) → nat_le (need e) (gap s.log) ≡ true → IfErr result (IsWriteFailure a b)
+  pub wrote_logged : {T : Type 0} (result : Result T StoreError) (store : StoreValue) (a b : World) → is_long e ≡ false → nat_le (need e) (gap s.log) ≡ true → IfErr result (IsWriteFailure a b)
       → MovesTo spelling bytes s (logged s e) result store a b → WroteEntry spelling bytes s (written bytes s e) result store a b
-  wrote_logged result store a b fits why t = turns (logged s e) (written_fits bytes s e fits) (is_failure result a b why) t
+  wrote_logged result store a b short fits why t = turns (logged s e) (written_fits bytes s e short fits) (is_failure result a b why) t
 
   -- it does not fit, and the memory is flushed
-  module _ (full : nat_le (need e) (gap s.log) ≡ false) where
+  module _ (short : is_long e ≡ false) (full : nat_le (need e) (gap s.log) ≡ false) where
     flushed_first : written bytes s e ≡ logged_then e (flushed bytes s)
-    flushed_first = ap (λ (b : Bool). cond b (Ok (logged s e)) (logged_then e (flushed bytes s))) full
+    flushed_first = written_short bytes s e short ∙ ap (λ (b : Bool). cond b (Ok (logged s e)) (logged_then e (flushed bytes s))) full
 
     -- the map of a state that a flush made
     same_map : (to : State) → flushed bytes s ≡ Ok to → (image : Image) → Maps s to image → StandsForMap spelling (state_map s) image

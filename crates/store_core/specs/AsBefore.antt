@@ -1,4 +1,5 @@
 -- A store that is as it was represents what it did.
+use Rattle.std.specs.Prelude.{List}
 use Rattle.disk_trait.specs.Image.{Image}
 use Rattle.disk_trait.specs.World.{World}
 use Rattle.entry_model.specs.Entries.{Entry}
@@ -16,5 +17,5 @@ pub record RepresentsAsBefore (spelling : Spelling) (filter_bytes : FilterBytes)
   pub back : IsAsItWas after before
   pub represents : (s : State) → Represents spelling filter_bytes before s w → Represents spelling filter_bytes after s w
   pub reads : (s : State) (image : Image) → ReadsAs spelling filter_bytes before s image → ReadsAs spelling filter_bytes after s image
-  pub flush : IsFlushAllowed filter_bytes before → IsFlushAllowed filter_bytes after
+  pub flush : (entries : List Entry) → IsFlushAllowed filter_bytes before entries → IsFlushAllowed filter_bytes after entries
   pub entry : (e : Entry) → IsEntryAllowed filter_bytes before e → IsEntryAllowed filter_bytes after e

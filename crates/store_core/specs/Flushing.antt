@@ -1,17 +1,23 @@
 -- What a flush writes and installs, why it does not, and what it makes of a store.
-use Rattle.std.specs.Prelude.{◌≡◌, ◌<◌, ◌≤◌, ◌+◌, ◌-◌, ℕ, List, [], ◌∷◌, length, true, Some, Result, IfErr, OnOk}
+use Rattle.std.specs.Prelude.{◌≡◌, ◌⊎◌, ◌<◌, ◌≤◌, ◌+◌, ◌-◌, ℕ, List, [], ◌∷◌, filter, length, true, Option, Some, None, Result, IfErr, OnOk}
+use Rattle.std.specs.Option.{option_map}
+use Rattle.std.specs.Borrow.{Bor}
 use Rattle.byte_fields.specs.declared.parts.Row.{Row}
 use Rattle.disk_trait.specs.World.{Meanwhile, Now, Rose, World}
-use Rattle.entry_model.specs.Entries.{Entry}
+use Rattle.entry_model.specs.Entries.{Entry, put_entry}
+use Rattle.entry_model.specs.Newest.{with_entry}
 use Rattle.extent_model.specs.Gaps.{first_gap, largest_gap}
 use Rattle.filter_api.specs.Spellings.{Spelling}
 use Rattle.filter_model.specs.Leaves.{Leaf}
 use Rattle.image_model.specs.Stands.{StandsForMap, settings_of}
+use Rattle.key_base.specs.ByteOrder.{is_before}
 use Rattle.key_base.specs.Limits.{last_epoch, max_tables}
 use Rattle.manifest.specs.Manifest.{Manifest, raised}
 use Rattle.manifest.specs.declared.fault.ManifestFault.{ManifestFault}
 use Rattle.manifest.specs.declared.fault.ManifestFault.TheVariants as fault
 use Rattle.manifest_model.specs.Version.{Version, log_page_of}
+use Rattle.map_model.specs.SortedMap.{Bytes}
+use Rattle.state_model.specs.Changes.{logged}
 use Rattle.state_model.specs.State.{State}
 use Rattle.state_model.specs.View.{memory, state_map}
 use Rattle.store_core.specs.Answers.{is_write}
@@ -26,6 +32,33 @@ use Rattle.table_file.specs.Building.{Built}
 use Rattle.table_file.specs.Writing.{made_row}
 pub use Rattle.table_file.specs.Writing.{opened_of}
 use Rattle.table_model.specs.Tables.{FilterBytes, filter_bytes_of, table_of, table_pages}
+
+-- ---- what is flushed
+
+-- an entry that is put over the memory, as it is handed in
+abbrev pub over_of : Option (Bor Bytes × Bor Bytes) → Option Entry
+over_of over = option_map (λ (pair : Bor Bytes × Bor Bytes). put_entry pair.0.now pair.1.now) over
+
+-- the entries of the memory, with this one over them where there is one
+abbrev pub entries_with : List Entry → Option Entry → List Entry
+entries_with entries None = entries
+entries_with entries (Some entry) = with_entry entries entry
+
+-- the state of whose memory entries these are
+abbrev pub state_with : State → Option Entry → State
+state_with s None = s
+state_with s (Some entry) = logged s entry
+
+-- the entries below a key, and those above it: between them an entry of the key has its place
+abbrev pub entries_below : List Entry → Bytes → List Entry
+entries_below entries key = filter (λ (e : Entry). is_before e.key key) entries
+
+abbrev pub entries_above : List Entry → Bytes → List Entry
+entries_above entries key = filter (λ (e : Entry). is_before key e.key) entries
+
+-- The one state is the other but for its log, which may be one that fits no log area.
+abbrev pub DiffersInLog : State → State → Type 0
+DiffersInLog s over = over ≡ record s { log = over.log }
 
 -- ---- the version to come
 
@@ -105,11 +138,13 @@ IsFlushFault old new fault.AlreadyAStore = ⊥
 IsFlushFault old new fault.Epoch = ⊥
 IsFlushFault old new (fault.Damaged damage) = ⊥
 
--- What is planned is written: meanwhile a crash leaves the map of the state; at Ok the state behind the flush stands under the
--- new manifest with the new table; and where memory was wanted all stands as it stood.
-pub record FlushedTo {T : Type 0} (spelling : Spelling) (built_cutoff : ℕ → List Leaf → ℕ) (store : StoreValue) (s : State) (parts : Built) (row : Row) (next : Manifest)
+-- What is planned of the memory entries of `over` is written: meanwhile a crash leaves the map of the state or that of `over`,
+-- which are one where nothing is put over the memory; at Ok the state behind the flush holds under the new manifest with the new
+-- table; and where memory was wanted all is as it was, and a crash leaves the map of the state alone.
+pub record FlushedTo {T : Type 0} (spelling : Spelling) (built_cutoff : ℕ → List Leaf → ℕ) (store : StoreValue) (s over : State) (parts : Built) (row : Row) (next : Manifest)
     (result : Result T ManifestFault) (old new : World) : Type 0 where
-  pub meanwhile : Meanwhile (StandsForMap spelling (state_map s)) old new
+  pub meanwhile : Meanwhile (λ image. StandsForMap spelling (state_map s) image ⊎ StandsForMap spelling (state_map over) image) old new
   pub done : OnOk result (Now (RepresentsOn spelling (installed_manifest next) (opened_of built_cutoff parts row ∷ store.tables) store.job
-      (flushed_at (filter_bytes_of spelling built_cutoff) row.first_page s)) new)
+      (flushed_at (filter_bytes_of spelling built_cutoff) row.first_page over)) new)
   pub wanted : IfErr result (λ (why : ManifestFault). why ≡ fault.Memory → Now (RepresentsOn spelling store.manifest store.tables store.job s) new)
+  pub unmoved : IfErr result (λ (why : ManifestFault). why ≡ fault.Memory → Meanwhile (StandsForMap spelling (state_map s)) old new)

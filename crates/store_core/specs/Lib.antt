@@ -31,6 +31,7 @@ pub mod Staying
 pub mod Caching
 pub mod Getting
 pub mod Lends
+pub mod Looking
 pub mod Opening
 pub mod Formatting
 pub mod Flushing

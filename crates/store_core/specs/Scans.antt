@@ -10,7 +10,7 @@ use Rattle.line_model.specs.Replies.{Reply}
 use Rattle.map_model.specs.Slices.{first_pair, is_before, is_up_to}
 use Rattle.map_model.specs.SortedMap.{Bytes, Map}
 use Rattle.merge_rows.specs.Merges.{Merge, TableWalk, rows_left, walk_left}
-use Rattle.merge_rows.specs.Reads.{SomeBlock, ones, wants}
+use Rattle.merge_rows.specs.Reads.{SomeBlock, blocks_left, ones, wants}
 use Rattle.merge_rows.specs.Rows.{KeyFloor, clears}
 use Rattle.merge_rows.specs.Steps.{IsSoundMerge}
 use Rattle.state_model.specs.Bounds.{is_passed, seek_bound}
@@ -99,6 +99,15 @@ admits_keys low (Some high) t = not (is_before high low) && ranged t.filter.real
 abbrev pub numbers_admitting : Bytes → Option Bytes → List Opened → List ℕ
 numbers_admitting low high [] = []
 numbers_admitting low high (t ∷ older) = if admits_keys low high t then length older ∷ numbers_admitting low high older else numbers_admitting low high older
+
+-- their blocks
+abbrev pub blocks_admitting : Bytes → Option Bytes → List Opened → ℕ
+blocks_admitting low high [] = 0
+blocks_admitting low high (t ∷ older) = if admits_keys low high t then length t.index.rows + blocks_admitting low high older else blocks_admitting low high older
+
+-- the blocks that a scan has still to read
+abbrev pub blocks_to_come : ScanWalk → ℕ
+blocks_to_come scan = blocks_left scan.tables scan.merge.walks
 
 -- the blocks that a walk may want before the rows are passed whose keys pass a test: one where the next row wants it, and one more
 -- for each of its entries there

@@ -17,7 +17,7 @@ use table_file::TableFault;
 pub enum Limit {
     /// The key has so many bytes: none, or more than 1,024.
     Key(u64),
-    /// The value has so many bytes, more than 65,536.
+    /// The value has so many bytes, more than 1,048,576.
     Value(u64),
     /// The version has 1,024 tables.
     Tables,

@@ -1,12 +1,13 @@
-//! The memory table becomes a table of level 0.
-ghost use Rattle.std.specs.Prelude.{◌≡◌, ◌≢◌, ◌≤◌, ◌<◌, ◌+◌, ◌-◌, ◌*◌, ◌∷◌, ◌++◌, ◌||◌, List, [], true, false, Some, None, IsTrue, IfOk, IfErr, OnOk, OnErr, MatchResult, length, map};
+//! The memory table becomes a table of level 0, with an entry over it where its value is too long for the log.
+ghost use Rattle.std.specs.Prelude.{◌≡◌, ◌≢◌, ◌≤◌, ◌<◌, ◌+◌, ◌-◌, ◌*◌, ◌∷◌, ◌++◌, ◌||◌, List, [], true, false, Some, None, IsTrue, IfOk, IfErr, IfSome, OnOk, OnErr, MatchResult, length, map};
 ghost use Rattle.std.specs.List.{AllByRecursion};
 ghost use Rattle.std.specs.List.Sorted.{IsPermutation};
 ghost use Rattle.block_model.specs.Block.{IsTable};
 ghost use Rattle.block_model.specs.Pages.{page_bytes};
 ghost use Rattle.disk_trait.specs.World.{ReadMoves, WriteMoves};
 ghost use Rattle.byte_fields.specs.declared.parts.Row.{Row as model_row};
-ghost use Rattle.entry_model.specs.Entries.{Entry};
+ghost use Rattle.entry_model.specs.Entries.{Entry, IsEntry, put_entry};
+ghost use Rattle.entry_model.specs.Newest.{KeysRise};
 ghost use Rattle.extent_model.specs.Extents.{AreApart, AreLaid};
 ghost use Rattle.extent_model.specs.Gaps.{first_gap, largest_gap};
 ghost use Rattle.filter_api.specs.Ranges.{InRange};
@@ -20,9 +21,9 @@ ghost use Rattle.state_model.specs.Changes.{flushed};
 ghost use Rattle.state_model.specs.State.{State};
 ghost use Rattle.state_model.specs.View.{memory};
 ghost use Rattle.store_core.specs.Answers.{AnswersRequest, IsTried, IsWriteRefusal, WroteEntry, stopped_by, told_change};
-ghost use Rattle.store_core.specs.Flushing.{FlushedTo, IsFlushFault, IsNoPlace, IsPlan, IsPlanRefusal, next_manifest, other_log_page};
+ghost use Rattle.store_core.specs.Flushing.{DiffersInLog, FlushedTo, IsFlushFault, IsNoPlace, IsPlan, IsPlanRefusal, entries_with, next_manifest, other_log_page, over_of, state_with};
 ghost use Rattle.store_core.specs.Framing.{IsInUse, LeavesPlaces};
-ghost use Rattle.store_core.specs.Refusing.{IsFlushAllowed, IsFlushDue};
+ghost use Rattle.store_core.specs.Refusing.{IsFlushAllowed, IsFlushDue, MayBeFlushed};
 ghost use Rattle.store_core.specs.StoreValue.{IsConsistent, StoreValue};
 ghost use Rattle.store_core.specs.Running.{extents_with, outputs_in};
 ghost use Rattle.store_core.specs.Represents.{Represents};
@@ -31,6 +32,7 @@ ghost use Rattle.table_model.specs.Tables.{filter_bytes_of, table_pages};
 
 use crate::compacting::stops_store;
 use crate::error::{Limit, StoreError};
+use crate::long_values::build_with;
 use crate::store::Store;
 use byte_fields::Row;
 use disk_trait::Disk;
@@ -71,6 +73,25 @@ fn build_table<F: RangeFilter>(
         }
     }
     builder.finish()
+}
+
+// The table of what is flushed: the entries of the memory, with an entry over them where there is one.
+fn build_flushed<F: RangeFilter>(
+    alloc: Global,
+    settings: Settings,
+    memory: &MemTable,
+    over: Option<(&[u8], &[u8])>,
+) -> Result<Parts<F>, AllocError>
+    requires settings { InRange settings }
+    requires rises { KeysRise memory.now.entries }
+    requires sound { AllByRecursion IsEntry memory.now.entries }
+    requires table { IsTable (entries_with memory.now.entries (over_of over)) }
+    ensures { IfOk result (λ parts. parts ≡ record { settings = settings; entries = entries_with memory.now.entries (over_of over.entry) }) }
+{
+    match over {
+        Some((key, value)) => build_with(alloc, settings, memory, key, value),
+        None => build_table(alloc, settings, memory),
+    }
 }
 
 // Takes the extents of some rows, which lie apart from one another and from all that are taken.
@@ -154,26 +175,30 @@ fn next_version(alloc: Global, version: &Version, row: Row) -> Result<Version, A
     })
 }
 
-// What is written and installed for the entries of the memory, one or more. Nothing is written here, and all that is refused is
-// refused here, but for memory for the manifest's body. The outputs are those of the merge that runs.
+// What is written and installed for the entries of the memory, with an entry over them where there is one. Nothing is written
+// here, and all that is refused is refused here, but for memory for the manifest's body. The outputs are those of the merge that
+// runs.
 fn plan_flush<F: RangeFilter>(
     alloc: Global,
     version: &Version,
     outputs: &[Row],
     memory: &MemTable,
+    over: Option<(&[u8], &[u8])>,
 ) -> Result<Plan<F>, StoreError>
     requires sound { IsVersion version.now.version }
     requires laid { AreLaid version.now.version.pages (extents_with version.now.version outputs.now) }
-    requires table { IsTable memory.now.entries }
-    ensures plan { IfOk result (λ p. IsPlan F.spelling F.built_cutoff version.now outputs.now memory.now.entries p.parts p.row p.next) }
+    requires rises { KeysRise memory.now.entries }
+    requires each { AllByRecursion IsEntry memory.now.entries }
+    requires table { IsTable (entries_with memory.now.entries (over_of over)) }
+    ensures plan { IfOk result (λ p. IsPlan F.spelling F.built_cutoff version.now outputs.now (entries_with memory.now.entries (over_of over.entry)) p.parts p.row p.next) }
     ensures fits { IfOk result (λ p. p.row.first_page + table_pages (filter_bytes_of F.spelling F.built_cutoff) p.parts.settings p.parts.entries ≤ p.next.version.pages) }
     ensures next { IfOk result (λ p. IsVersion p.next.version) }
-    ensures refused { IfErr result (IsPlanRefusal (filter_bytes_of F.spelling F.built_cutoff) version.now.version outputs.now memory.now.entries) }
+    ensures refused { IfErr result (IsPlanRefusal (filter_bytes_of F.spelling F.built_cutoff) version.now.version outputs.now (entries_with memory.now.entries (over_of over.entry))) }
 {
     if version.rows.len() >= MAX_TABLES {
         return Err(StoreError::Limit(Limit::Tables));
     }
-    let parts: Parts<F> = build_table(alloc, version.settings, memory)?;
+    let parts: Parts<F> = build_flushed(alloc, version.settings, memory, over)?;
     let page = place_for(alloc, version, outputs, pages_of(&parts))?;
     if version.epoch == LAST_EPOCH {
         return Err(StoreError::Limit(Limit::Epoch));
@@ -203,9 +228,9 @@ fn write_plan<F: RangeFilter, D: Disk>(
     requires slot { plan.now.next.slot ≤ 1 }
     requires sound { IsVersion plan.now.next.version }
     requires epoch { plan.now.next.version.epoch < last_epoch }
-    ensures replaces { (store : StoreValue) (s : State) → IsTrue D.tells → IsConsistent store → Represents F.spelling (filter_bytes_of F.spelling F.built_cutoff) store s (D.world disk.old)
-        → IsPlan F.spelling F.built_cutoff store.manifest (outputs_in store.job) (memory s) plan.now.parts plan.now.row plan.now.next
-        → FlushedTo F.spelling F.built_cutoff store s plan.now.parts plan.now.row plan.now.next result (D.world disk.old) (D.world disk.new) }
+    ensures replaces { (store : StoreValue) (s over : State) → IsTrue D.tells → IsConsistent store → Represents F.spelling (filter_bytes_of F.spelling F.built_cutoff) store s (D.world disk.old)
+        → DiffersInLog s over → IsPlan F.spelling F.built_cutoff store.manifest (outputs_in store.job) (memory over) plan.now.parts plan.now.row plan.now.next
+        → FlushedTo F.spelling F.built_cutoff store s over plan.now.parts plan.now.row plan.now.next result (D.world disk.old) (D.world disk.new) }
     ensures frame { (m : Manifest) (held : List model_row) (entries : List Entry) → IsVersion m.version → m.slot ≤ 1 → AreLaid m.version.pages (extents_with m.version held)
         → IsPlan F.spelling F.built_cutoff m held entries plan.now.parts plan.now.row plan.now.next → LeavesPlaces (IsInUse m log_bytes) (D.world disk.old) (D.world disk.new) }
     ensures log { IfOk result (λ log. (log.filled ≡ 0) × (plan.now.next.version.log_page ≡ log_page_of log.area)) }
@@ -230,8 +255,8 @@ impl<F: RangeFilter> Store<F> {
         ensures answered { (s : State) → IsTrue D.tells → self.old.stopped ≡ false → Represents F.spelling (filter_bytes_of F.spelling F.built_cutoff) self.old s (D.world disk.old)
             → AnswersRequest F.spelling (filter_bytes_of F.spelling F.built_cutoff) s flush_line (told_change result) self.new (D.world disk.old) (D.world disk.new) }
         ensures refused { MatchResult result (λ _. IsTried self.old.stopped None) (IsWriteRefusal self.old.stopped None (D.world disk.old) (D.world disk.new)) }
-        ensures due { IfErr result (IsFlushDue (filter_bytes_of F.spelling F.built_cutoff) self.old (D.world disk.old) (D.world disk.new)) }
-        ensures allowed { OnOk result (IsFlushAllowed (filter_bytes_of F.spelling F.built_cutoff) self.old) }
+        ensures due { IfErr result (IsFlushDue (filter_bytes_of F.spelling F.built_cutoff) self.old self.old.memory.entries (D.world disk.old) (D.world disk.new)) }
+        ensures allowed { OnOk result (IsFlushAllowed (filter_bytes_of F.spelling F.built_cutoff) self.old self.old.memory.entries) }
         ensures stays { Stays result self.old self.new }
         ensures frame { LeavesPlaces (IsInUse self.old.manifest log_bytes) (D.world disk.old) (D.world disk.new) }
         ensures pages { self.new.manifest.version.pages ≡ self.old.manifest.version.pages }
@@ -252,8 +277,8 @@ impl<F: RangeFilter> Store<F> {
         ensures wrote { (s : State) → IsTrue D.tells → Represents F.spelling (filter_bytes_of F.spelling F.built_cutoff) self.old s (D.world disk.old)
             → WroteEntry F.spelling (filter_bytes_of F.spelling F.built_cutoff) s (flushed (filter_bytes_of F.spelling F.built_cutoff) s) result self.new (D.world disk.old) (D.world disk.new) }
         ensures refused { IfErr result (IsWriteRefusal false None (D.world disk.old) (D.world disk.new)) }
-        ensures due { IfErr result (IsFlushDue (filter_bytes_of F.spelling F.built_cutoff) self.old (D.world disk.old) (D.world disk.new)) }
-        ensures allowed { OnOk result (IsFlushAllowed (filter_bytes_of F.spelling F.built_cutoff) self.old) }
+        ensures due { IfErr result (IsFlushDue (filter_bytes_of F.spelling F.built_cutoff) self.old self.old.memory.entries (D.world disk.old) (D.world disk.new)) }
+        ensures allowed { OnOk result (IsFlushAllowed (filter_bytes_of F.spelling F.built_cutoff) self.old self.old.memory.entries) }
         ensures stays { Stays result self.old self.new }
         ensures nothing { self.old.memory.entries ≡ [] → DoesNothing result self.old self.new (D.world disk.old) (D.world disk.new) }
         ensures stopped { self.new.stopped ≡ stopped_by result }
@@ -269,8 +294,37 @@ impl<F: RangeFilter> Store<F> {
         if self.memory.is_empty() {
             return Ok(());
         }
+        self.flush_with(disk, None)
+    }
+
+    // The flush of one that is not stopped, with an entry over those in memory where there is one. The memory and the log stay as
+    // they were where it is refused: the entry goes into neither.
+    pub(crate) fn flush_with<D: Disk>(
+        &mut self,
+        disk: &mut D,
+        over: Option<(&[u8], &[u8])>,
+    ) -> Result<(), StoreError>
+        requires running { self.old.stopped ≡ false }
+        requires sound { IfSome over (λ pair. IsEntry (put_entry pair.0.now pair.1.now)) }
+        requires some { entries_with self.old.memory.entries (over_of over) ≢ [] }
+        ensures wrote { (s : State) → IsTrue D.tells → Represents F.spelling (filter_bytes_of F.spelling F.built_cutoff) self.old s (D.world disk.old)
+            → WroteEntry F.spelling (filter_bytes_of F.spelling F.built_cutoff) s (flushed (filter_bytes_of F.spelling F.built_cutoff) (state_with s (over_of over.entry))) result self.new (D.world disk.old) (D.world disk.new) }
+        ensures refused { IfErr result (IsWriteRefusal false None (D.world disk.old) (D.world disk.new)) }
+        ensures due { IfErr result (IsFlushDue (filter_bytes_of F.spelling F.built_cutoff) self.old (entries_with self.old.memory.entries (over_of over.entry)) (D.world disk.old) (D.world disk.new)) }
+        ensures allowed { OnOk result (MayBeFlushed (filter_bytes_of F.spelling F.built_cutoff) self.old (entries_with self.old.memory.entries (over_of over.entry))) }
+        ensures stays { Stays result self.old self.new }
+        ensures stopped { self.new.stopped ≡ stopped_by result }
+        ensures empty { OnOk result (self.new.memory.entries ≡ []) }
+        ensures begun { OnOk result (self.new.log.filled ≡ 0) }
+        ensures other { OnOk result (other_log_page self.old.manifest.version ≡ log_page_of self.new.log.area) }
+        ensures frame { LeavesPlaces (IsInUse self.old.manifest log_bytes) (D.world disk.old) (D.world disk.new) }
+        ensures pages { self.new.manifest.version.pages ≡ self.old.manifest.version.pages }
+        ensures spare { self.old.memory.spare ≤ self.new.memory.spare }
+        ensures moves { WriteMoves 0 (page_bytes * self.old.manifest.version.pages) (D.world disk.old) (D.world disk.new) }
+    {
         let alloc = *self.buffer.allocator();
-        let plan: Plan<F> = plan_flush(alloc, &self.version, outputs_of(&self.job), &self.memory)?;
+        let outputs = outputs_of(&self.job);
+        let plan: Plan<F> = plan_flush(alloc, &self.version, outputs, &self.memory, over)?;
         self.tables.reserve(1)?;
         match write_plan(alloc, disk, &plan) {
             Ok(log) => {

@@ -1,5 +1,5 @@
 //! What the store says of a key.
-ghost use Rattle.std.specs.Prelude.{◌≡◌, ◌≢◌, ◌≤◌, ◌<◌, ◌+◌, ℕ, List, length, take, is_some, vec_capacity, Some, None, IsTrue, IfOk, IfErr, IfSome, OnErr};
+ghost use Rattle.std.specs.Prelude.{◌≡◌, ◌≢◌, ◌≤◌, ◌<◌, ◌+◌, ℕ, List, length, take, is_some, vec_capacity, Some, None, IsTrue, IfOk, IfErr, IfSome, OnOk, OnErr};
 ghost use Rattle.std.specs.Option.{option_map};
 ghost use Rattle.std.specs.Borrow.{sem};
 ghost use Rattle.block_cache.specs.Kept.{kept_of};
@@ -15,20 +15,21 @@ ghost use Rattle.state_model.specs.State.{State};
 ghost use Rattle.state_model.specs.View.{first_found, state_map, view};
 ghost use Rattle.store_core.specs.Caching.{AreNumbered, AreSame, BlockAgrees, CacheAgrees, IsFirst, LeavesKept, SaysOf, cache_number, past_cache, reads_for, said_by, unkept, unkept_named};
 ghost use Rattle.store_core.specs.Getting.{IsBlockFault, IsBlockIn, IsFaultIn, IsFoundAt, IsLookFault, IsPlaceIn, IsReadIn, IsSpotIn, MayKeepRead, entries_by_table, said_at, said_in};
+ghost use Rattle.store_core.specs.Looking.{AreReadSound, IsReadSound, looked_table, looked_tables};
 ghost use Rattle.store_core.specs.StoreValue.{StoreValue};
 ghost use Rattle.level_merge.specs.TablesAgree.{TablesAgree};
 ghost use Rattle.store_core.specs.Represents.{Represents};
 ghost use Rattle.table_model.specs.Tables.{filter_bytes_of};
 ghost use Rattle.table_file.specs.Faults.{IsNoDamage};
-ghost use Rattle.table_file.specs.Search.{StandsThere, block_for, blocks_of_get, bytes_at, largest_block};
+ghost use Rattle.table_file.specs.Search.{IsSoundBlock, StandsThere, block_for, blocks_of_get, bytes_at, largest_block};
 ghost use Rattle.table_model.specs.Tables as model;
 
-use crate::buffer::lengthen;
 use crate::caching::CachedBlocks;
 use crate::error::StoreError;
 use crate::limits::check_key;
 use crate::store::Store;
 use block_format::Block;
+use byte_fields::lengthen;
 use disk_trait::Disk;
 use filter_api::RangeFilter;
 use std::alloc::Global;
@@ -79,6 +80,7 @@ fn read_in<F: RangeFilter, D: Disk>(
     ensures has { IfOk result (λ r. r.1 ≡ is_some (lookup (block_in (take r.0 buffer.new.items)) key.now)) }
     ensures room { largest_block ≤ vec_capacity buffer.new }
     ensures bytes { IsTrue D.tells → IfOk result (λ r. take r.0 buffer.new.items ≡ bytes_at table.now block (D.world disk.old).seen.held) }
+    ensures sound { IsTrue D.tells → OnOk result (IsSoundBlock table.now block (D.world disk.old).seen.held) }
     ensures undamaged { (blocks : List (List Entry)) → IsTrue D.tells → StandsThere F.spelling table.now blocks (D.world disk.old).seen.held → IfErr result IsNoDamage }
     ensures shown { IsTrue D.tells → IfErr result (IsBlockFault table.now key.now (D.world disk.old).seen.held) }
     ensures moves { ReadMoves 1 (D.world disk.old) (D.world disk.new) }
@@ -118,6 +120,8 @@ fn look_in<F: RangeFilter, D: Disk>(
     ensures answer { (parts : List (List Entry)) → IsTrue D.tells → StandsThere F.spelling table.now parts (D.world disk.old).seen.held
         → ((n : ℕ) (bytes : Bytes) → kept_of (number, n) blocks.old.kept ≡ Some bytes → SaysOf n bytes table.now (joined parts))
         → IfOk result (λ l. said_in l.found buffer.new.items blocks.new.kept key.now ≡ lookup (joined parts) key.now) }
+    ensures looked { IsTrue D.tells → IfOk result (λ l. said_in l.found buffer.new.items blocks.new.kept key.now ≡ looked_table blocks.old.kept number table.now key.now (D.world disk.old).seen.held) }
+    ensures sound { IsTrue D.tells → OnOk result (IsReadSound blocks.old.kept number table.now key.now (D.world disk.old).seen.held) }
     ensures says { (parts : List (List Entry)) → IsTrue D.tells → StandsThere F.spelling table.now parts (D.world disk.old).seen.held
         → IfOk result (λ l. IfSome l.read (λ r. SaysOf r.block (take r.size buffer.new.items) table.now (joined parts))) }
     ensures undamaged { (parts : List (List Entry)) → IsTrue D.tells → StandsThere F.spelling table.now parts (D.world disk.old).seen.held → IfErr result IsNoDamage }
@@ -163,6 +167,8 @@ fn look_in_all<F: RangeFilter, D: Disk>(
     ensures same { AreSame blocks.old blocks.new }
     ensures answer { (states : List model.Table) → IsTrue D.tells → TablesAgree F.spelling tables.now states (D.world disk.old).seen.held → CacheAgrees blocks.old tables.now states
         → IfOk result (λ l. said_in l.found buffer.new.items blocks.new.kept key.now ≡ first_found (entries_by_table states) key.now) }
+    ensures looked { IsTrue D.tells → IfOk result (λ l. said_in l.found buffer.new.items blocks.new.kept key.now ≡ looked_tables blocks.old tables.now key.now (D.world disk.old).seen.held) }
+    ensures sound { IsTrue D.tells → OnOk result (AreReadSound blocks.old tables.now key.now (D.world disk.old).seen.held) }
     ensures says { (states : List model.Table) → IsTrue D.tells → TablesAgree F.spelling tables.now states (D.world disk.old).seen.held
         → IfOk result (λ l. IfSome l.read (λ r. r.number < past_cache → BlockAgrees blocks.old.first (r.number, r.block) (take r.size buffer.new.items) tables.now states)) }
     ensures undamaged { (states : List model.Table) → IsTrue D.tells → TablesAgree F.spelling tables.now states (D.world disk.old).seen.held → IfErr result IsNoDamage }
@@ -223,6 +229,8 @@ fn look_and_keep<F: RangeFilter, D: Disk>(
         → CacheAgrees blocks.new tables.now states }
     ensures answer { (states : List model.Table) → IsTrue D.tells → TablesAgree F.spelling tables.now states (D.world disk.old).seen.held → CacheAgrees blocks.old tables.now states
         → IfOk result (λ found. said_in found buffer.new.items blocks.new.kept key.now ≡ first_found (entries_by_table states) key.now) }
+    ensures looked { IsTrue D.tells → IfOk result (λ found. said_in found buffer.new.items blocks.new.kept key.now ≡ looked_tables blocks.old tables.now key.now (D.world disk.old).seen.held) }
+    ensures sound { IsTrue D.tells → OnOk result (AreReadSound blocks.old tables.now key.now (D.world disk.old).seen.held) }
     ensures undamaged { (states : List model.Table) → IsTrue D.tells → TablesAgree F.spelling tables.now states (D.world disk.old).seen.held → IfErr result IsNoDamage }
     ensures shown { IsTrue D.tells → IfErr result (IsFaultIn tables.now key.now (D.world disk.old).seen.held) }
     ensures bounded { (states : List model.Table) → IsTrue D.tells → TablesAgree F.spelling tables.now states (D.world disk.old).seen.held → CacheAgrees blocks.old tables.now states
@@ -255,16 +263,21 @@ fn place_of(found: Option<Spot>) -> Place
 impl<F: RangeFilter> Store<F> {
     ghost use Rattle.store_core.specs.Lends.{store_ends};
     ghost use Rattle.store_core.specs.Getting.{Asked, GetsKey};
+    ghost use Rattle.store_core.specs.Looking.{GivesLooked, SaysLooked};
 
     /// The value of a key, or `None` where it was never put or was deleted last.
     ///
     /// At most one block is read of each table whose filter admits the key and whose keys enclose it, newest first, until
     /// an entry of the key is found; and none that is kept. The last block that was read is kept, of 64 those that were asked
     /// for last, where there is memory; else nothing is lost. No memory that could be refused, no write.
+    ///
+    /// Whatever the device holds, each block that was read is sound where it answers, and the answer is what memory, the kept
+    /// blocks and these say.
     pub fn get<D: Disk>(&mut self, disk: &mut D, key: &[u8]) -> Result<Option<&[u8]>, StoreError>
         ensures* after { sem 𝓛 (store_ends F.row F.RangeFilter self.entry (λ s. Asked F.spelling (filter_bytes_of F.spelling F.built_cutoff) D.tells self.old s (D.world disk.old) (D.world disk.new))) }
         ensures answer { (s : State) → IsTrue D.tells → Represents F.spelling (filter_bytes_of F.spelling F.built_cutoff) self.old s (D.world disk.old)
             → IfOk result (λ found. option_map (λ v. v.now) found ≡ get (state_map s) key.now) }
+        ensures looked { IsTrue D.tells → IfOk result (λ found. GivesLooked self.old key.now (D.world disk.old).seen.held (option_map (λ v. v.now) found)) }
         ensures gets { GetsKey F.spelling (filter_bytes_of F.spelling F.built_cutoff) D.tells self.old key.now result (D.world disk.old) (D.world disk.new) }
         ensures limited { key_limit key.now ≢ None → ReadMoves 0 (D.world disk.old) (D.world disk.new) }
         ensures in_memory { lookup self.old.memory.entries key.now ≢ None → ReadMoves 0 (D.world disk.old) (D.world disk.new) }
@@ -279,6 +292,7 @@ impl<F: RangeFilter> Store<F> {
         ensures place { IfOk result (λ place. IsPlaceIn place self.new.buffer) }
         ensures answer { (s : State) → IsTrue D.tells → Represents F.spelling (filter_bytes_of F.spelling F.built_cutoff) self.old s (D.world disk.old)
             → IfOk result (λ place. said_at place self.new key.now ≡ view s key.now) }
+        ensures looked { IsTrue D.tells → IfOk result (λ place. SaysLooked self.old key.now (D.world disk.old).seen.held (said_at place self.new key.now)) }
         ensures gets { GetsKey F.spelling (filter_bytes_of F.spelling F.built_cutoff) D.tells self.old key.now result (D.world disk.old) (D.world disk.new) }
         ensures limited { key_limit key.now ≢ None → ReadMoves 0 (D.world disk.old) (D.world disk.new) }
         ensures in_memory { lookup self.old.memory.entries key.now ≢ None → ReadMoves 0 (D.world disk.old) (D.world disk.new) }

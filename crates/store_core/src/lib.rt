@@ -3,7 +3,8 @@
 //! A [`Store`] is generic in the kind of filter that its tables have, and each call takes any device. [`Store::format`] makes
 //! a device an empty store, and [`Store::open_store`] opens the one that stands there. [`Store::put`] and [`Store::delete`]
 //! write a record to the log before the entry stands in memory; where it does not fit, [`Store::flush`] makes the memory a
-//! table of level 0. [`Store::get`] looks for a key in memory and then in the tables, newest first, and reads at most one
+//! table of level 0. A value of over 65,536 bytes goes with the memory into such a
+//! table at once. [`Store::get`] looks for a key in memory and then in the tables, newest first, and reads at most one
 //! block of each, and none that it keeps. [`Store::seek`] and [`Store::range`] give the pairs between two bounds, by rising
 //! keys: they open those tables alone whose filter admits the bounds. [`Store::tend`] merges tables, a merge slice at each call;
 //! [`Store::compact`] merges all that the store holds, in one call. [`Store::set_settings`] changes the settings of new tables,
@@ -25,7 +26,6 @@
 //! ```
 #![tactic(auto)]
 
-mod buffer;
 mod caching;
 mod compacting;
 mod counting;
@@ -36,6 +36,7 @@ mod formatting;
 mod getting;
 mod installing;
 mod limits;
+mod long_values;
 mod opening;
 mod putting;
 mod replacing;

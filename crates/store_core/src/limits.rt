@@ -8,7 +8,7 @@ ghost use Rattle.store_core.specs.Telling.{IsHighOfBytes, are_crossed};
 ghost use Rattle.store_core.specs.Answers.{IsLimitOf};
 
 use crate::error::{Limit, StoreError};
-use key_base::{MAX_BOUND_BYTES, MAX_KEY_BYTES, MAX_LOGGED_VALUE_BYTES, compare};
+use key_base::{MAX_BOUND_BYTES, MAX_KEY_BYTES, MAX_VALUE_BYTES, compare};
 
 // A key has 1 to 1,024 bytes.
 pub(crate) fn check_key(key: &[u8]) -> Result<(), StoreError>
@@ -20,11 +20,11 @@ pub(crate) fn check_key(key: &[u8]) -> Result<(), StoreError>
     Ok(())
 }
 
-// A value has at most 65,536 bytes.
+// A value has at most 1,048,576 bytes.
 pub(crate) fn check_value(value: &[u8]) -> Result<(), StoreError>
     ensures { MatchResult result (λ _. value_limit value.now ≡ None) (IsLimitOf (value_limit value.now)) }
 {
-    if value.len() > MAX_LOGGED_VALUE_BYTES {
+    if value.len() > MAX_VALUE_BYTES {
         return Err(StoreError::Limit(Limit::Value(value.len() as u64)));
     }
     Ok(())

@@ -8,7 +8,7 @@ ghost use Rattle.key_base.specs.Limits.{log_bytes};
 ghost use Rattle.line_model.specs.Limits.{limit_of};
 ghost use Rattle.log_model.specs.Area.{start_of};
 ghost use Rattle.line_model.specs.Requests.{Del, Put};
-ghost use Rattle.state_model.specs.Changes.{logged, written};
+ghost use Rattle.state_model.specs.Changes.{is_long, logged, written};
 ghost use Rattle.state_model.specs.State.{State};
 ghost use Rattle.store_core.specs.Answers.{AnswersRequest, IsTried, IsWriteFailure, IsWriteRefusal, MovesTo, WroteEntry, stopped_by, told_change};
 ghost use Rattle.store_core.specs.Framing.{IsBesideRecord, IsInUse, LeavesPlaces};
@@ -18,14 +18,15 @@ ghost use Rattle.store_core.specs.Staying.{Stays};
 ghost use Rattle.table_file.specs.Search.{largest_block};
 ghost use Rattle.table_model.specs.Tables.{filter_bytes_of};
 
-use crate::buffer::lengthen;
 use crate::error::StoreError;
 use crate::limits::{check_key, check_value};
 use crate::store::Store;
+use byte_fields::lengthen;
 use disk_trait::Disk;
 use entry_list::Entry;
 use filter_api::RangeFilter;
 use gate_log::record_need;
+use key_base::MAX_LOGGED_VALUE_BYTES;
 use level_merge::jobs_are_followed;
 
 // Gives a buffer the bytes in which the record of an entry is built.
@@ -43,7 +44,9 @@ impl<F: RangeFilter> Store<F> {
     /// Sets the value of a key.
     ///
     /// The memory of the entry is taken first; then, where its record does not fit the log area, the memory table is
-    /// flushed; then the record is written and made to last. At `Ok` no crash takes it back. No read.
+    /// flushed; then the record is written and made to last. A value of over 65,536 bytes is not logged: the entries in
+    /// memory with this one over them are flushed, as one table, and the memory and the log are empty behind it. At `Ok` no
+    /// crash takes it back. No read.
     pub fn put<D: Disk>(&mut self, disk: &mut D, key: &[u8], value: &[u8]) -> Result<(), StoreError>
         ensures answered { (s : State) → IsTrue D.tells → self.old.stopped ≡ false → Represents F.spelling (filter_bytes_of F.spelling F.built_cutoff) self.old s (D.world disk.old)
             → AnswersRequest F.spelling (filter_bytes_of F.spelling F.built_cutoff) s (Put key.now value.now) (told_change result) self.new (D.world disk.old) (D.world disk.new) }
@@ -53,6 +56,8 @@ impl<F: RangeFilter> Store<F> {
         ensures stays { Stays result self.old self.new }
         ensures own { LeavesPlaces (IsBesideRecord self.old.manifest self.old.log.filled (need (put_entry key.now value.now))) (D.world disk.old) (D.world disk.new) }
         ensures frame { LeavesPlaces (IsInUse self.old.manifest self.old.log.filled) (D.world disk.old) (D.world disk.new) }
+        // a value that is not logged leaves all of the log area in use as it was
+        ensures unlogged { is_long (put_entry key.now value.now) ≡ true → LeavesPlaces (IsInUse self.old.manifest log_bytes) (D.world disk.old) (D.world disk.new) }
         ensures pages { self.new.manifest.version.pages ≡ self.old.manifest.version.pages }
         ensures stopped { self.new.stopped ≡ (self.old.stopped || stopped_by result) }
         ensures no_call { self.old.stopped ≡ true → ReadMoves 0 (D.world disk.old) (D.world disk.new) }
@@ -63,6 +68,9 @@ impl<F: RangeFilter> Store<F> {
         }
         check_key(key)?;
         check_value(value)?;
+        if value.len() > MAX_LOGGED_VALUE_BYTES {
+            return self.flush_with(disk, Some((key, value)));
+        }
         self.write(disk, key, Some(value))
     }
 

@@ -10,14 +10,14 @@ ghost use Rattle.line_model.specs.Requests.{Range, Seek};
 ghost use Rattle.map_model.specs.Slices.{between, first_pair, is_up_to, slice};
 ghost use Rattle.map_model.specs.SortedMap.{Bytes, Map};
 ghost use Rattle.merge_rows.specs.Merges.{rows_left};
-ghost use Rattle.merge_rows.specs.Reads.{OnlyReads, SomeBlock};
+ghost use Rattle.merge_rows.specs.Reads.{OnlyReads, SomeBlock, blocks_left};
 ghost use Rattle.merge_rows.specs.Steps.{AreWalksIn, IsSoundMerge, SourcesStay, numbers, stands};
 ghost use Rattle.state_model.specs.Bounds.{seek_bound};
 ghost use Rattle.state_model.specs.State.{State};
 ghost use Rattle.state_model.specs.View.{state_map};
 ghost use Rattle.store_core.specs.Answers.{IsTried};
 ghost use Rattle.store_core.specs.Getting.{IsLookFault, IsUndamaged};
-ghost use Rattle.store_core.specs.Scans.{IsScanRefusal, IsScanShown, IsStepFault, IsWalkShown, MayRead, StillComes, admits_keys, at_most, blocks_on_way, given, is_ended, left_behind, numbers_admitting, pair_in, pairs_up_to, opened_tables, step_bound};
+ghost use Rattle.store_core.specs.Scans.{IsScanRefusal, IsScanShown, IsStepFault, IsWalkShown, MayRead, StillComes, admits_keys, at_most, blocks_admitting, blocks_on_way, blocks_to_come, given, is_ended, left_behind, numbers_admitting, pair_in, pairs_up_to, opened_tables, step_bound};
 ghost use Rattle.store_core.specs.Represents.{ReadsAs};
 ghost use Rattle.table_file.specs.Search.{IsGetFault};
 ghost use Rattle.table_model.specs.Tables.{filter_bytes_of};
@@ -148,6 +148,10 @@ fn next_pair<F: RangeFilter, D: Disk>(
         ≡ pairs_up_to (option_map (λ v. v.items) high.now) (rows_left rows.old tables.now.tables (D.world disk.old).seen.held)) }
     ensures bounded { IsTrue D.tells → IsSoundMerge rows.old tables.now.tables (D.world disk.old).seen.held
         → (D.world disk.new).seen.reads ≤ (D.world disk.old).seen.reads + blocks_on_way (option_map (λ v. v.items) high.now) rows.old tables.now.tables (D.world disk.old).seen.held }
+    ensures spent { IsTrue D.tells → IsSoundMerge rows.old tables.now.tables (D.world disk.old).seen.held
+        → OnOk result ((D.world disk.new).seen.reads + blocks_left tables.now.tables rows.new.walks ≤ (D.world disk.old).seen.reads + blocks_left tables.now.tables rows.old.walks) }
+    ensures tried { IsTrue D.tells → IsSoundMerge rows.old tables.now.tables (D.world disk.old).seen.held
+        → OnErr result ((D.world disk.new).seen.reads ≤ (D.world disk.old).seen.reads + blocks_left tables.now.tables rows.old.walks) }
     ensures only_if_read { OnErr result (1 ≤ length rows.old.walks) }
     ensures cause { IfErr result (IsLookFault (D.world disk.old) (D.world disk.new)) }
     ensures fault { IsTrue D.tells → IfErr result (λ why. SomeBlock tables.now.tables (numbers rows.old.walks) (λ t n. IsGetFault t n (D.world disk.old).seen.held why)) }
@@ -186,7 +190,7 @@ impl<F: RangeFilter> Store<F> {
     ///
     /// It takes all the memory of the scan, and reads nothing. Of a closed scan those tables alone are opened whose filter
     /// admits the bounds: the first step reads one block of each at most, and one more for each entry of a deleted key that it
-    /// passes over.
+    /// passes over. In all it reads each block of the tables that it opened once at most, where no read fails.
     pub fn seek(&self, low: &[u8], high: Option<&[u8]>) -> Result<Scan<'_, F>, StoreError>
         ensures shows { (s : State) (image : Image) → ReadsAs F.spelling (filter_bytes_of F.spelling F.built_cutoff) self.now s image
             → IfOk result (λ scan. StillComes F.spelling scan (between (state_map s) low.now (option_map (λ h. h.now) high.entry)) image) }
@@ -194,6 +198,7 @@ impl<F: RangeFilter> Store<F> {
             → option_map (λ h. h.now) high.entry ≡ Some hi → IfOk result (λ scan. step_bound scan image ≤ seek_bound s low.now hi) }
         ensures only_if_read { (s : State) (image : Image) → ReadsAs F.spelling (filter_bytes_of F.spelling F.built_cutoff) self.now s image
             → IfOk result (λ scan. 1 ≤ opened_tables scan → MayRead s low.now (option_map (λ h. h.now) high.entry)) }
+        ensures blocks { IfOk result (λ scan. blocks_to_come scan ≤ blocks_admitting low.now (option_map (λ h. h.now) high.entry) self.now.tables) }
         ensures made { IfOk result (λ scan. (scan.tables ≡ self.now.tables) × (scan.left ≡ None)) }
         ensures refused { MatchResult result (λ _. IsTried self.now.stopped (limit_of (Seek low.now (option_map (λ h. h.now) high.entry)))) (IsScanRefusal self.now.stopped (limit_of (Seek low.now (option_map (λ h. h.now) high.entry)))) }
     {
@@ -210,6 +215,7 @@ impl<F: RangeFilter> Store<F> {
             → IfOk result (λ scan. step_bound scan image ≤ seek_bound s low.now high.now) }
         ensures only_if_read { (s : State) (image : Image) → ReadsAs F.spelling (filter_bytes_of F.spelling F.built_cutoff) self.now s image
             → IfOk result (λ scan. 1 ≤ opened_tables scan → MayRead s low.now (Some high.now)) }
+        ensures blocks { IfOk result (λ scan. blocks_to_come scan ≤ blocks_admitting low.now (Some high.now) self.now.tables) }
         ensures made { IfOk result (λ scan. (scan.tables ≡ self.now.tables) × (scan.left ≡ Some most)) }
         ensures refused { MatchResult result (λ _. IsTried self.now.stopped (limit_of (Range low.now high.now most))) (IsScanRefusal self.now.stopped (limit_of (Range low.now high.now most))) }
     {
@@ -229,6 +235,7 @@ impl<F: RangeFilter> Store<F> {
             → option_map (λ h. h.now) high.entry ≡ Some hi → IfOk result (λ scan. step_bound scan image ≤ seek_bound s low.now hi) }
         ensures only_if_read { (s : State) (image : Image) → ReadsAs F.spelling (filter_bytes_of F.spelling F.built_cutoff) self.now s image
             → IfOk result (λ scan. 1 ≤ opened_tables scan → MayRead s low.now (option_map (λ h. h.now) high.entry)) }
+        ensures blocks { IfOk result (λ scan. blocks_to_come scan ≤ blocks_admitting low.now (option_map (λ h. h.now) high.entry) self.now.tables) }
         ensures made { IfOk result (λ scan. (scan.tables ≡ self.now.tables) × (scan.left ≡ most)) }
         ensures refused { MatchResult result (λ _. IsTried self.now.stopped (limit_of (Seek low.now (option_map (λ h. h.now) high.entry)))) (IsScanRefusal self.now.stopped (limit_of (Seek low.now (option_map (λ h. h.now) high.entry)))) }
     {
@@ -290,6 +297,10 @@ impl<'s, F: RangeFilter> Scan<'s, F> {
         ensures walked { IsTrue D.tells → IfErr result (IsWalkShown self.old.tables (numbers self.old.merge.walks) (D.world disk.old).seen.held) }
         ensures bounded { (m : Map) → IsTrue D.tells → StillComes F.spelling self.old m (D.world disk.old).seen.held
             → (D.world disk.new).seen.reads ≤ (D.world disk.old).seen.reads + step_bound self.old (D.world disk.old).seen.held }
+        ensures spent { (m : Map) → IsTrue D.tells → StillComes F.spelling self.old m (D.world disk.old).seen.held
+            → OnOk result ((D.world disk.new).seen.reads + blocks_to_come self.new ≤ (D.world disk.old).seen.reads + blocks_to_come self.old) }
+        ensures tried { (m : Map) → IsTrue D.tells → StillComes F.spelling self.old m (D.world disk.old).seen.held
+            → OnErr result ((D.world disk.new).seen.reads ≤ (D.world disk.old).seen.reads + blocks_to_come self.old) }
         ensures only_if_read { OnErr result ((1 ≤ opened_tables self.old) × (self.old.left ≢ Some 0)) }
         ensures more { IfOk result (λ some. some ≡ true → self.old.left ≢ Some 0) }
         ensures ended { self.old.left ≡ Some 0 → IsOk result × ReadMoves 0 (D.world disk.old) (D.world disk.new) }

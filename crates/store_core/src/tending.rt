@@ -62,7 +62,7 @@ fn next_job<F: RangeFilter>(
 
 impl<F: RangeFilter> Store<F> {
     /// One merge slice of the merge that runs, or of a new one where some tables are to be merged: it reads at most so many blocks,
-    /// one or more, and writes at most one output and the version in which the outputs stand.
+    /// one or more, and on any device at most twice as many, and writes at most one output and the version in which the outputs stand.
     ///
     /// The map stays as it is. At `Full` and at each error the merge is dropped, and its outputs give their pages back.
     pub fn tend<D: Disk>(&mut self, disk: &mut D, blocks: u32) -> Result<Tended, StoreError>

@@ -1,7 +1,7 @@
 //! Changes of a store, with faults and crashes between them.
 use disk_mem::{Choice, MemDisk};
 use filter_api::{Field, Settings};
-use std::alloc::Global;
+use std::alloc::{AllocError, Global};
 use std::test::Fail;
 use store_core::{Limit, StoreError};
 use test_stores::{BASE, PlainStore, crashed, disk_of, failing, opened};
@@ -11,6 +11,11 @@ const MIXED: Settings = Settings {
     real_bits: 8,
     ratio: 64,
 };
+
+// So many bytes 07.
+fn sevens(alloc: Global, count: usize) -> Result<Vec<u8>, AllocError> {
+    vec![in alloc; 7; count]
+}
 
 // A disk that holds an empty store of 512 pages.
 fn formatted(alloc: Global, settings: Settings) -> Result<Box<MemDisk>, Fail> {
@@ -85,13 +90,51 @@ fn refusals_in_their_order(rt: HostRuntime) -> Result<(), Fail> {
         store.put(&mut *disk, b"", b"c"),
         Err(StoreError::Limit(Limit::Key(0)))
     );
-    let long = vec![in alloc; 0; 65_537]?;
+    let long = sevens(alloc, 1_048_577)?;
     assert_eq!(rt;
         store.put(&mut *disk, b"a", &long),
-        Err(StoreError::Limit(Limit::Value(65_537)))
+        Err(StoreError::Limit(Limit::Value(1_048_577)))
     );
     assert_eq!(rt; store.flush(&mut *disk), Ok(()));
     assert_eq!(rt; store.get(&mut *disk, b"a"), Ok(None));
+    Ok(())
+}
+
+// Whether these bytes stand at a place.
+fn stands(disk: &MemDisk, place: usize, bytes: &[u8]) -> bool {
+    disk.bytes().get(place..).unwrap_or(b"").starts_with(bytes)
+}
+
+// Whether slot B is in use behind its first install, with log area 1, which is empty, and one table of level 0, of two
+// entries in 18 data pages.
+fn has_one_table(disk: &MemDisk) -> bool {
+    let row = [
+        0, 0, 0, 0, 192, 0, 0, 0, 18, 0, 0, 0, 1, 0, 0, 0, 1, 0, 0, 0, 2, 0, 0, 0,
+    ];
+    stands(disk, 131_072, &[1])
+        && stands(disk, 131_088, &[2, 0, 0, 0])
+        && stands(disk, 131_104, &[128, 0, 0, 0])
+        && stands(disk, 131_144, &row)
+        && stands(disk, 524_288, &[0])
+}
+
+// Whether gets find the value of b, and b as the value of a.
+fn finds_both(store: &mut PlainStore, disk: &mut MemDisk, value: &[u8]) -> bool {
+    finds(store, disk, b"a", Some(b"b")) && finds(store, disk, b"b", Some(value))
+}
+
+#[test]
+fn a_long_value_is_flushed_with_the_memory(rt: HostRuntime) -> Result<(), Fail> {
+    let alloc = rt.alloc();
+    let mut disk = formatted(alloc, BASE)?;
+    let mut store = opened(alloc, &mut disk)?;
+    let long = sevens(alloc, 65_537)?;
+    assert_eq!(rt; store.put(&mut *disk, b"a", b"b"), Ok(()));
+    assert_eq!(rt; store.put(&mut *disk, b"b", &long), Ok(()));
+    assert!(rt; has_one_table(&disk));
+    assert!(rt; finds_both(&mut store, &mut disk, &long));
+    let mut again = opened(alloc, &mut disk)?;
+    assert!(rt; finds_both(&mut again, &mut disk, &long));
     Ok(())
 }
 
@@ -100,7 +143,7 @@ fn long_values_until_there_is_no_room(rt: HostRuntime) -> Result<(), Fail> {
     let alloc = rt.alloc();
     let mut disk = formatted(alloc, BASE)?;
     let mut store = opened(alloc, &mut disk)?;
-    let value = vec![in alloc; 7; 65_536]?;
+    let value = sevens(alloc, 65_536)?;
     for key in 1..22u8 {
         assert_eq!(rt; store.put(&mut *disk, &[key], &value), Ok(()));
     }

@@ -61,6 +61,58 @@ fn six_tables_fill_the_device(rt: HostRuntime) -> Result<(), Fail> {
     Ok(())
 }
 
+// The state behind a short put and one with a value of so many bytes, with keys of these names.
+fn behind_two<'k>(
+    alloc: Global,
+    key: &'k [u8],
+    long_key: &'k [u8],
+    size: usize,
+) -> Result<Box<Played>, AllocError> {
+    let value = zeros(alloc, size)?;
+    let put = Request::Put {
+        key,
+        value: b"\x01",
+    };
+    let long = Request::Put {
+        key: long_key,
+        value: value.as_slice(),
+    };
+    let state = new_state(alloc, 512)?;
+    played(alloc, &state, &[put, long])
+}
+
+// The pages, blocks and entries of the one table of a state whose log is empty.
+fn one_table(state: &State) -> Option<(u64, u64, usize)> {
+    match state.tables.as_slice() {
+        [table] if state.log.is_empty() => {
+            Some((table.pages, table.blocks, table.entries.len()))
+        }
+        _ => None,
+    }
+}
+
+#[test]
+fn a_value_over_65536_bytes_is_not_logged(rt: HostRuntime) -> Result<(), Fail> {
+    let alloc = rt.alloc();
+    let logged = behind_two(alloc, b"a", b"b", 65_536)?;
+    assert_eq!(rt; logged.state.log.len(), 2);
+    assert!(rt; logged.state.tables.is_empty());
+    let long = behind_two(alloc, b"a", b"b", 65_537)?;
+    assert_eq!(rt; one_table(&long.state), Some((20, 2, 2)));
+    let same = behind_two(alloc, b"a", b"a", 65_537)?;
+    assert_eq!(rt; one_table(&same.state), Some((19, 1, 1)));
+    let longest = behind_two(alloc, b"a", b"a", 1_048_576)?;
+    assert_eq!(rt; one_table(&longest.state), Some((259, 1, 1)));
+    let refused = behind_two(alloc, b"a", b"a", 1_048_577)?;
+    assert!(rt;
+        matches!(
+            refused.replies.as_slice(),
+            [Reply::Done, Reply::LongValue(1_048_577)]
+        )
+    );
+    Ok(())
+}
+
 fn small_table(alloc: Global, n: u16) -> Result<Table, AllocError> {
     let mut entries = Vec::new(alloc);
     entries.push(Entry::new(alloc, &n.to_be_bytes(), Some(b"v"))?)?;

@@ -1,7 +1,7 @@
 //! What a refused call leaves, which calls make no call of the device, and how many blocks a merge slice reads.
 use disk_mem::MemDisk;
 use disk_trait::Disk;
-use std::alloc::Global;
+use std::alloc::{AllocError, Global};
 use std::test::Fail;
 use store_core::{Limit, StoreError, Tended};
 use test_stores::{BASE, Change, PlainStore, apply, changed, disk_of, opened};
@@ -102,20 +102,26 @@ fn a_store_of_nothing_is_flushed_and_compacted_without_a_call(rt: HostRuntime) -
     Ok(())
 }
 
+// So many bytes 07.
+fn sevens(alloc: Global, count: usize) -> Result<Vec<u8>, AllocError> {
+    vec![in alloc; 7; count]
+}
+
 // The table holds the first 1,024 bytes of the key.
 #[test]
 fn limits_are_told_without_a_call(rt: HostRuntime) -> Result<(), Fail> {
     let alloc = rt.alloc();
-    let long = vec![in alloc; 7; 65_537]?;
+    let name = [7; 1_025];
     let mut disk = disk_of(alloc, &[])?;
-    let first = [Change::Put(&long[..1_024], b"v"), Change::Flush];
+    let first = [Change::Put(&name[..1_024], b"v"), Change::Flush];
     let mut store = changed(alloc, &mut disk, &first)?;
     let calls = disk.calls();
     let key = Err(StoreError::Limit(Limit::Key(1_025)));
-    assert_eq!(rt; store.put(&mut *disk, &long[..1_025], b"v"), key);
-    let value = Err(StoreError::Limit(Limit::Value(65_537)));
+    assert_eq!(rt; store.put(&mut *disk, &name, b"v"), key);
+    let long = sevens(alloc, 1_048_577)?;
+    let value = Err(StoreError::Limit(Limit::Value(1_048_577)));
     assert_eq!(rt; store.put(&mut *disk, b"a", &long), value);
-    let got = store.get(&mut *disk, &long[..1_025]);
+    let got = store.get(&mut *disk, &name);
     assert!(rt; matches!(got, Err(StoreError::Limit(Limit::Key(1_025)))));
     assert_eq!(rt; disk.calls(), calls);
     Ok(())

@@ -35,7 +35,7 @@ pub tend_as : (C D : Why → Type 0) (filter_bytes : FilterBytes) → ((why : Wh
     → Tend C filter_bytes s tended after → Tend D filter_bytes s tended after
 tend_as C D filter_bytes weaker s tended after d = elim d as (λ t new _. Tend D filter_bytes s t new) [
   | tends.idle none chosen ↦ tends.idle none chosen
-  | tends.works job later runs on other ↦ tends.works job later runs on other
+  | tends.works job later runs on other more ↦ tends.works job later runs on other more
   | tends.installs job later runs on done epoch ↦ tends.installs job later runs on done epoch
   | tends.last_epoch_reached job later runs on done epoch ↦ tends.last_epoch_reached job later runs on done epoch
   | tends.no_room job later refusal runs on full ↦ tends.no_room job later refusal runs on full

@@ -3,6 +3,7 @@ pub mod Calms
 pub mod Chaining
 pub mod Changes
 pub mod Compacts
+pub mod CrashReplies
 pub mod Dialogues
 pub mod EndCauses
 pub mod Footprint

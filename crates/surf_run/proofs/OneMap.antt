@@ -3,7 +3,7 @@ use Rattle.std.proofs.Common.{◌≡◌, ◌≢◌, ◌⊎◌, inl, inr, ◌+◌
 use Rattle.std.specs.Option.{option_or}
 use Rattle.std.specs.Prelude.{Err, None, Ok, Option, Result, Some, ◌==◌, length, nat_le, nat_lt, take}
 use Rattle.entry_model.specs.Entries.{Entry, del_entry, gap, need, put_entry}
-use Rattle.key_base.specs.Limits.{is_no_key_length, last_epoch, max_bound_bytes, max_tables, max_logged_value_bytes}
+use Rattle.key_base.specs.Limits.{is_no_key_length, last_epoch, max_bound_bytes, max_tables, max_value_bytes}
 use Rattle.line_model.specs.Limits.{bound_limit, key_limit, limit_of, value_limit}
 use Rattle.line_model.specs.Replies.{Damaged, Device, Done, LongKey, LongValue, Memory, Pairs, Reply, text_of}
 use Rattle.line_model.specs.Requests.{Bad, Compact, Count, Del, Estimate, Explain, Flush, Get, Put, Quit, Range, Request, Seek, request_of}
@@ -16,7 +16,7 @@ use Rattle.state_model.proofs.SoundInstalls.{slice_keeps, slice_sound}
 use Rattle.state_model.proofs.SoundLines.{step_sound}
 use Rattle.state_model.specs.Bounds.{admitted, blocks_read, estimate}
 use Rattle.state_model.specs.Causes.{Why}
-use Rattle.state_model.specs.Changes.{compact_placed, compacted_with, flush_placed, flushed, flushed_with, logged_then, with_tables, written}
+use Rattle.state_model.specs.Changes.{compact_placed, compacted_with, flush_placed, flushed, flushed_with, is_long, logged, logged_then, with_tables, written}
 use Rattle.state_model.specs.Laws.{map_behind}
 use Rattle.state_model.specs.Merges.{NoRoom}
 use Rattle.state_model.specs.Script.{Between, Onward, Over, turn_of}
@@ -56,7 +56,8 @@ logged_refuses entry (Err refusal) so = so
 
 written_refuses : (filter_bytes : FilterBytes) (s : State) (entry : Entry) → Refuses (written filter_bytes s entry)
 written_refuses filter_bytes s entry =
-    either (nat_le (need entry) (gap s.log)) _ _ tt (logged_refuses entry (flushed filter_bytes s) (flushed_refuses filter_bytes s (memory s)))
+    either (is_long entry) _ _ (flushed_refuses filter_bytes (logged s entry) (memory (logged s entry)))
+    (either (nat_le (need entry) (gap s.log)) _ _ tt (logged_refuses entry (flushed filter_bytes s) (flushed_refuses filter_bytes s (memory s))))
 
 placed_refuses : (s : State) (made : Result (List Table) NoRoom) → Refuses (compact_placed s made)
 placed_refuses s (Ok made) = tt
@@ -91,7 +92,7 @@ both_refuse lo hi = first_refuses (bound_limit lo) (bound_limit hi) (bound_refus
 
 limits_refuse : (request : Request) → LimitRefuses (limit_of request)
 limits_refuse (Put key value) =
-    first_refuses (key_limit key) (value_limit value) (key_refuses key) (limited (nat_lt max_logged_value_bytes (length value)) (LongValue (length value)) (inl refl))
+    first_refuses (key_limit key) (value_limit value) (key_refuses key) (limited (nat_lt max_value_bytes (length value)) (LongValue (length value)) (inl refl))
 limits_refuse (Del key) = key_refuses key
 limits_refuse (Get key) = key_refuses key
 limits_refuse (Seek lo None) = bound_refuses lo

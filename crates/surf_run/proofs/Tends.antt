@@ -38,7 +38,7 @@ IsUnharmed tended = Unit {0}
 never_damaged : (a b : World) (filter_bytes : FilterBytes) (s : State) (tended : Tended) (after : State) → Tend (HasCause a b) filter_bytes s tended after → IsUnharmed tended
 never_damaged a b filter_bytes s tended after d = elim d as (λ t new _. IsUnharmed t) [
   | model.idle none chosen ↦ tt
-  | model.works job later runs on other ↦ tt
+  | model.works job later runs on other more ↦ tt
   | model.installs job later runs on done epoch ↦ tt
   | model.last_epoch_reached job later runs on done epoch ↦ tt
   | model.no_room job later refusal runs on full ↦ tt

@@ -52,13 +52,13 @@ pub last_line : (rest : Bytes) → NoNewline rest → zero < length rest → lin
 last_line [] none some = absurd (omega arith)
 last_line (b ∷ rest) none some = ap counted (slice_split_none (λ (b : ℕ). b == 10) (b ∷ rest) none)
 
-too_long : (line : Bytes) → 140000 < length line → request_of line ≡ Bad 1
+too_long : (line : Bytes) → 2100000 < length line → request_of line ≡ Bad 1
 too_long line long =
-    ap (λ (t : Bool). cond t (asked_by (slice_split (λ b. b == 32) line)) (Bad 1)) (lt-leb (length line) 140000 long)
+    ap (λ (t : Bool). cond t (asked_by (slice_split (λ b. b == 32) line)) (Bad 1)) (lt-leb (length line) 2100000 long)
 
 -- too long a line says the same however long it is
 pub request_held : (rest kept : Bytes) → PendingLine rest kept → request_of kept ≡ request_of rest
-request_held rest kept held = elim (cases_lt 140000 (length rest)) [
+request_held rest kept held = elim (cases_lt 2100000 (length rest)) [
   | inl long ↦ too_long kept (held.long long) ∙ sym (too_long rest long)
   | inr short ↦ ap request_of (held.short short)
 ]
@@ -69,19 +69,19 @@ nothing (b ∷ l) is = absurd (omega arith)
 
 -- where nothing is kept, nothing is there
 pub held_none : (rest kept : Bytes) → PendingLine rest kept → length kept ≡ 0 → rest ≡ []
-held_none rest kept held none = elim (cases_lt 140000 (length rest)) [
+held_none rest kept held none = elim (cases_lt 2100000 (length rest)) [
   | inl long ↦ absurd (let h = held.long long in omega arith)
   | inr short ↦ nothing rest (let h = ap length (held.short short) in omega arith)
 ]
 
 -- where something is kept, something is there
 pub held_some : (rest kept : Bytes) → PendingLine rest kept → zero < length kept → zero < length rest
-held_some rest kept held some = elim (cases_lt 140000 (length rest)) [
+held_some rest kept held some = elim (cases_lt 2100000 (length rest)) [
   | inl long ↦ omega arith
   | inr short ↦ let h = ap length (held.short short) in omega arith
 ]
 
-pub held_same : (rest kept : Bytes) → kept ≡ rest → length rest ≤ 140000 → PendingLine rest kept
+pub held_same : (rest kept : Bytes) → kept ≡ rest → length rest ≤ 2100000 → PendingLine rest kept
 held_same rest kept same short = record { short = λ _. same; long = λ long. absurd (omega arith) }
 
 pub none_here : {X : Type 0} (r : Option X) (P : Type 0) → ((x : X) → r ≡ Some x → ⊥) → IfNone r P → P

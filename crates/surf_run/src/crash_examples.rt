@@ -20,6 +20,13 @@ pub fn one_put()
     ensures ok_said { KeepsOneMap [] (codes "put 61 62" ∷ []) [] (codes "ok" ++ 10 ∷ []) 3 ((97 ∷ [], 98 ∷ []) ∷ []) }
 {}
 
+/// What is said later judges what a crash leaves now: a put that is refused was not there before its reply, whatever the next
+/// one is answered; and once a reply was said, the next is judged by what comes after it.
+pub fn two_puts()
+    ensures refused_was_never_there { KeepsOneMap [] (codes "put 61 62" ∷ codes "put 63 64" ∷ []) [] (codes "memory" ++ 10 ∷ codes "ok" ++ 10 ∷ []) 0 ((97 ∷ [], 98 ∷ []) ∷ []) → ⊥ }
+    ensures next_may_be_there { KeepsOneMap [] (codes "put 61 62" ∷ codes "put 63 64" ∷ []) [] (codes "memory" ++ 10 ∷ codes "ok" ++ 10 ∷ []) 7 ((99 ∷ [], 100 ∷ []) ∷ []) }
+{}
+
 /// Before `device` come pairs of a range alone, and those of the map.
 pub fn failed_reads()
     ensures of_a_range { IsDevice ((97 ∷ [], 98 ∷ []) ∷ []) (Range [] (97 ∷ []) 2) (Pairs ((97 ∷ [], 98 ∷ []) ∷ []) Device) }

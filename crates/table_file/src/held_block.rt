@@ -14,6 +14,7 @@ ghost use Rattle.table_file.specs.Walks.{first_of, others_of};
 use crate::fault::TableFault;
 use crate::table::Table;
 use block_format::{BlockFormat, EntryWalk, ValuePlace, value_of};
+use byte_fields::lengthen;
 use disk_trait::Disk;
 use filter_api::RangeFilter;
 use key_base::{MAX_KEY_BYTES, PAGE_BYTES};
@@ -137,20 +138,6 @@ impl HeldBlock {
         match self.place {
             Some(place) => Some((self.walk.key(&self.key), value_of(place, &self.bytes))),
             None => None,
-        }
-    }
-}
-
-// Makes them as many bytes as these, where they are fewer. No memory.
-fn lengthen(bytes: &mut Vec<u8>, size: usize)
-    requires { size ≤ vec_capacity bytes.old }
-    ensures many { size ≤ length bytes.new.items }
-    ensures room { vec_capacity bytes.old ≤ vec_capacity bytes.new }
-{
-    if bytes.len() < size {
-        match bytes.resize(size, 0) {
-            Ok(()) => {}
-            Err(_) => unreachable!(),
         }
     }
 }

@@ -1,12 +1,13 @@
-use Rattle.std.proofs.Common.{◌≡◌, ◌∙◌, ◌-◌, ◌<◌, Bool, true, false, sym, ap, subst, arith}
+use Rattle.std.proofs.Common.{◌≡◌, ◌∙◌, ◌-◌, ◌*◌, ◌<◌, ℕ, Bool, IsTrue, true, false, sym, ap, subst, arith}
 use Rattle.std.specs.Prelude.{Ok}
+use Rattle.std.proofs.lemmas.Bool.{false≢true}
 use Rattle.disk_trait.specs.Image.{Image}
 use Rattle.disk_trait.specs.World.{ReadMoves}
 use Rattle.merge_rows.specs.Reads.{IsFewer, blocks_left, wanted}
 use Rattle.merge_rows.specs.Rows.{KeyFloor}
 use Rattle.merge_rows.specs.Steps.{AreCaughtUp, AreHeadsClear, IsSoundMerge, StaysAt, numbers}
 use Rattle.merge_rows.proofs.Stays.{only_then, read_none, read_one}
-use Rattle.level_merge.proofs.AllRead.{wanted_left}
+use Rattle.merge_rows.proofs.WantedLeft.{wanted_left}
 use Rattle.level_merge.proofs.Reading.{all_twice, kept_then, later_fault, none_more, none_twice, none_wanted, one_more, one_twice, one_wanted, read_fault, then_twice, within_all}
 use Rattle.level_merge.proofs.taking.read_ahead.Goals as goal
 
@@ -159,3 +160,76 @@ returns-in-Err-clause-bounded g c t s =
     let once = subst (λ (h : Image). IsSoundMerge c.loop-left.rows tables h → ReadMoves 1 mid after) from.moves.1.held (λ u. (c.fill.ensures.once t u).0) (from.kept.sources.sound t s) in
     within_all c.args.blocks (c.loop-left.left - 1) before after
     (one_more c.args.blocks c.loop-left.left before mid after (omega (arith, c.loop-left-test.true)) from.within (from.counted t s) once)
+
+pub returns-in-Err-clause-unread : goal.returns-in-Err-clause-unread
+returns-in-Err-clause-unread g c = omega (arith, c.loop-left-test.true, c.loop-left.invariant.within)
+
+-- ---- no more may be read: the next row wants a block, or none
+
+-- what was so is so behind the question
+pub returns-then-wants_block : goal.returns-then-wants_block
+returns-then-wants_block g c =
+    let tells = g.D.Disk.tells in
+    let tables = c.args.tables.now.tables in
+    let before = g.D.Disk.world c.args.disk.now in
+    let mid = g.D.Disk.world c.loop-left.disk in
+    let after = g.D.Disk.world c.wants_block.new.disk in
+    let from = c.loop-left.invariant in
+    let asks = c.wants_block.ensures in
+    let none : c.loop-left.left ≡ 0 = omega (arith, c.loop-left-test.false) in
+    let paced = subst (λ (n : ℕ). ReadMoves (2 * (c.args.blocks - n)) before after) none (none_twice c.args.blocks c.loop-left.left before mid after from.paced asks.moves) in
+    let counted : IsTrue tells → IsSoundMerge c.args.rows.now tables before.seen.held → ReadMoves (c.args.blocks - 0) before after = λ t s. subst (λ (n : ℕ). ReadMoves (c.args.blocks - n) before after) none (none_more c.args.blocks c.loop-left.left before mid after (from.counted t s) asks.moves) in
+    record {
+      kept = kept_then tells tables before.seen.held c.args.rows.now c.loop-left.rows c.wants_block.new.self from.kept
+          (subst (λ (h : Image). StaysAt tells tables h c.loop-left.rows c.wants_block.new.self) from.moves.1.held asks.stays);
+      within = omega arith;
+      fewer = omega (arith, asks.left, from.fewer);
+      some = λ less. let fell = from.some (omega (arith, none, less)) in omega (arith, asks.left, fell);
+      more = λ _. wanted_left c.wants_block.new.self.floor tables c.wants_block.new.self.walks (asks.some c.if-wants_block.true);
+      none_wanted = λ t s some. absurd (false≢true some);
+      heads_pass = λ some. absurd (false≢true some);
+      caught_up = λ t some. absurd (false≢true some);
+      fault = tt;
+      unread = tt;
+      met = λ t s. tt;
+      moves = only_then 0 before mid after from.moves asks.moves;
+      paced = paced;
+      twice = all_twice c.args.blocks 0 before after paced;
+      bounded = λ t s. within_all c.args.blocks 0 before after (counted t s);
+      counted = counted;
+    }
+
+pub returns : goal.returns
+returns g c =
+    let tells = g.D.Disk.tells in
+    let tables = c.args.tables.now.tables in
+    let before = g.D.Disk.world c.args.disk.now in
+    let mid = g.D.Disk.world c.loop-left.disk in
+    let after = g.D.Disk.world c.wants_block.new.disk in
+    let old = c.loop-left.rows in
+    let new = c.wants_block.new.self in
+    let from = c.loop-left.invariant in
+    let asks = c.wants_block.ensures in
+    let held = from.moves.1.held in
+    let none : c.loop-left.left ≡ 0 = omega (arith, c.loop-left-test.false) in
+    let paced = subst (λ (n : ℕ). ReadMoves (2 * (c.args.blocks - n)) before after) none (none_twice c.args.blocks c.loop-left.left before mid after from.paced asks.moves) in
+    let counted : IsTrue tells → IsSoundMerge c.args.rows.now tables before.seen.held → ReadMoves (c.args.blocks - 0) before after = λ t s. subst (λ (n : ℕ). ReadMoves (c.args.blocks - n) before after) none (none_more c.args.blocks c.loop-left.left before mid after (from.counted t s) asks.moves) in
+    record {
+      kept = kept_then tells tables before.seen.held c.args.rows.now old new from.kept (subst (λ (h : Image). StaysAt tells tables h old new) held asks.stays);
+      within = omega arith;
+      fewer = omega (arith, asks.left, from.fewer);
+      some = λ less. let fell = from.some (omega (arith, none, less)) in omega (arith, asks.left, fell);
+      more = λ is. absurd cc;
+      none_wanted = λ t s _. subst (λ (h : Image). IsSoundMerge old tables h → wanted new tables ≡ 0) held (λ u. asks.none t u c.if-wants_block.false) (from.kept.sources.sound t s);
+      heads_pass = λ _. subst (λ (f : KeyFloor). AreHeadsClear f new.walks) (sym asks.stays.floor_is) (asks.clear c.if-wants_block.false);
+      caught_up = λ t _. subst (λ (f : KeyFloor). AreCaughtUp f tables before.seen.held new.walks) (sym asks.stays.floor_is)
+          (subst (λ (h : Image). AreCaughtUp old.floor tables h new.walks) held (asks.ready t c.if-wants_block.false));
+      fault = tt;
+      unread = tt;
+      met = λ t s. tt;
+      moves = only_then 0 before mid after from.moves asks.moves;
+      paced = paced;
+      twice = all_twice c.args.blocks 0 before after paced;
+      bounded = λ t s. within_all c.args.blocks 0 before after (counted t s);
+      counted = counted;
+    }

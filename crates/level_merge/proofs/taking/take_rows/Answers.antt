@@ -1,5 +1,6 @@
-use Rattle.std.proofs.Common.{rules, ◌≡◌, ◌<◌, ◌≤◌, ◌*◌, ◌∙◌, ◌++◌, Bool, List, true, false, sym, ap, subst, arith}
-use Rattle.std.specs.Prelude.{IsTrue, is_some}
+use Rattle.std.proofs.Common.{rules, ◌≡◌, ◌<◌, ◌≤◌, ◌*◌, ◌-◌, ◌∙◌, ◌++◌, ℕ, Bool, List, true, false, sym, ap, subst, arith}
+use Rattle.std.specs.Prelude.{IsTrue, Option, None, is_some}
+use Rattle.disk_trait.specs.World.{ReadMoves}
 use Rattle.disk_trait.specs.Image.{Image}
 use Rattle.entry_model.specs.Entries.{Entry}
 use Rattle.key_base.specs.Limits.{max_key_bytes}
@@ -11,7 +12,7 @@ use Rattle.merge_rows.proofs.Rank.{falls, key_of_entry}
 use Rattle.merge_rows.proofs.RowSteps.{rises_on}
 use Rattle.merge_rows.proofs.Stays.{only_both}
 use Rattle.level_merge.specs.JobValue.{IsBuilding, at_hand}
-use Rattle.level_merge.specs.SliceSteps.{FillsOutput, KeepsRows}
+use Rattle.level_merge.specs.SliceSteps.{FillsOutput, KeepsRows, left_of}
 use Rattle.level_merge.proofs.Reading.{both_twice, both_within, later_fault, some_then, then_twice}
 use Rattle.level_merge.proofs.RowsTaken.{building_more, building_rises, fills_last, fills_one, none_left, row_follows, stays_on}
 use Rattle.state_model.specs.Merges.{lasting}
@@ -40,8 +41,8 @@ add_row-requires-clause-above g c =
     let mid = c.read_ahead.new.rows in
     let new = c.advance_filled.new.self in
     let built = c.loop-rows.built.entries in
-    let less : 0 < c.in_ok-left.left = omega (arith, c.if-left-eq0.false) in
-    let step = c.advance_filled.ensures.row g.D.Disk.tells c.args.tables.now.tables (g.D.Disk.world c.loop-rows.disk).seen.held (λ t. c.in_ok-left.ensures.caught_up t less) in
+    let some_ahead : is_some c.in_ok-ahead.ahead ≡ true = ap (λ (o : Option ℕ). is_some o) c.in-Some.is in
+    let step = c.advance_filled.ensures.row g.D.Disk.tells c.args.tables.now.tables (g.D.Disk.world c.loop-rows.disk).seen.held (λ t. c.in_ok-ahead.ensures.caught_up t some_ahead) in
     let building = subst (λ (f : KeyFloor). IsBuilding f built) (sym c.read_ahead.ensures.kept.floor_is) c.loop-rows.invariant.building in
     row_follows new.now mid.floor new.floor built step.1.passes building
 
@@ -49,8 +50,8 @@ pub loop-rows-smaller : goal.loop-rows-smaller
 loop-rows-smaller g c =
     let mid = c.read_ahead.new.rows in
     let new = c.advance_filled.new.self in
-    let less : 0 < c.in_ok-left.left = omega (arith, c.if-left-eq0.false) in
-    let step = c.advance_filled.ensures.row g.D.Disk.tells c.args.tables.now.tables (g.D.Disk.world c.loop-rows.disk).seen.held (λ t. c.in_ok-left.ensures.caught_up t less) in
+    let some_ahead : is_some c.in_ok-ahead.ahead ≡ true = ap (λ (o : Option ℕ). is_some o) c.in-Some.is in
+    let step = c.advance_filled.ensures.row g.D.Disk.tells c.args.tables.now.tables (g.D.Disk.world c.loop-rows.disk).seen.held (λ t. c.in_ok-ahead.ensures.caught_up t some_ahead) in
     let some : is_some new.now ≡ true = sym c.advance_filled.ensures.said ∙ c.if-not-advance_filled.false in
     let passes = subst (λ (f : KeyFloor). RowPasses new.now f new.floor) c.read_ahead.ensures.kept.floor_is step.1.passes in
     falls max_key_bytes new.now c.loop-rows.rows.floor new.floor some passes (key_of_entry new.now c.advance_filled.ensures.sound)
@@ -70,55 +71,80 @@ loop-rows-preserved g c =
     let begun = c.args.built.now.entries in
     let built = c.loop-rows.built.entries in
     let from = c.loop-rows.invariant in
-    let read = c.in_ok-left.ensures in
+    let read = c.in_ok-ahead.ensures in
     let held = from.moves.1.held in
-    let less : 0 < c.in_ok-left.left = omega (arith, c.if-left-eq0.false) in
+    let some_ahead : is_some c.in_ok-ahead.ahead ≡ true = ap (λ (o : Option ℕ). is_some o) c.in-Some.is in
     let kept : KeepsRows tells tables image old mid = subst (λ (h : Image). KeepsRows tells tables h old mid) held c.read_ahead.ensures.kept in
-    let step = step_of tells tables image start.seen.held mid new held c.advance_filled.ensures.row (λ t. read.caught_up t less) in
+    let step = step_of tells tables image start.seen.held mid new held c.advance_filled.ensures.row (λ t. read.caught_up t some_ahead) in
     let left = same_blocks tables mid new c.advance_filled.ensures.walks in
     let some : is_some new.now ≡ true = sym c.advance_filled.ensures.said ∙ c.if-not-advance_filled.false in
     let added : c.add_row.new.built.entries ≡ built ++ lasting c.args.drops (at_hand new.now) = ap (λ (b : Built). b.entries) c.in_ok-add_row.ensures.added in
     let building = subst (λ (f : KeyFloor). IsBuilding f built) (sym kept.floor_is) from.building in
+    let is = c.in-Some.is in
+    let rest = c.in-Some.rest in
+    let within : rest ≤ c.loop-rows.left = subst (λ (o : Option ℕ). left_of o ≤ c.loop-rows.left) is read.within in
     record {
       stay = stays_on tells tables image c.args.beside c.args.drops first old mid begun built from.stay from.fills kept read.fewer new step.0 step.1 left;
       building = subst (IsBuilding new.floor) (sym added) (building_more new.now c.args.drops mid.floor new.floor built step.1.passes c.advance_filled.ensures.sound building);
       settings = ap (λ (b : Built). b.settings) c.in_ok-add_row.ensures.added ∙ from.settings;
       fills = subst (λ (es : List Entry). FillsOutput tells tables image c.args.beside c.args.drops first new begun es) (sym added)
           (fills_one tells tables image c.args.beside c.args.drops first old mid begun built from.stay from.fills kept read.fewer new step.0 step.1 left some (sym c.is_full.ensures ∙ c.loop-rows-test.true));
-      within = omega (arith, read.within, from.within);
-      some = some_then c.args.blocks c.loop-rows.left c.in_ok-left.left (blocks_left tables first.walks) (blocks_left tables old.walks) (blocks_left tables new.walks)
-          read.within from.fills.fewer (let two = read.fewer in omega (arith, left, two)) from.some
-          (λ fewer. let fell = read.some fewer in omega (arith, fell, left));
+      within = omega (arith, within, from.within);
+      some = some_then c.args.blocks c.loop-rows.left rest (blocks_left tables first.walks) (blocks_left tables old.walks) (blocks_left tables new.walks)
+          within from.fills.fewer (let two = read.fewer in omega (arith, left, two)) from.some
+          (λ fewer. let fell = subst (λ (o : Option ℕ). left_of o < c.loop-rows.left → blocks_left tables mid.walks < blocks_left tables old.walks) is read.some fewer in omega (arith, fell, left));
       moves = only_both before start after from.moves c.read_ahead.ensures.moves;
-      paced = both_twice c.args.blocks c.loop-rows.left c.in_ok-left.left before start after read.within from.within from.paced read.paced;
-      counted = λ t s. both_within c.args.blocks c.loop-rows.left c.in_ok-left.left before start after read.within from.within (from.counted t s)
-          (read.counted t (subst (IsSoundMerge old tables) (sym held) (from.stay.sound t s)));
+      paced = both_twice c.args.blocks c.loop-rows.left rest before start after within from.within from.paced (subst (λ (o : Option ℕ). ReadMoves (2 * (c.loop-rows.left - left_of o)) start after) is read.paced);
+      counted = λ t s. both_within c.args.blocks c.loop-rows.left rest before start after within from.within (from.counted t s)
+          (subst (λ (o : Option ℕ). ReadMoves (c.loop-rows.left - left_of o) start after) is (read.counted t (subst (IsSoundMerge old tables) (sym held) (from.stay.sound t s))));
     }
 
 -- ---- no row was taken
 
-pub returns-in_err-left-clause-twice : goal.returns-in_err-left-clause-twice
-returns-in_err-left-clause-twice g c = then_twice c.args.blocks c.loop-rows.left (2 * c.loop-rows.left) (g.D.Disk.world c.args.disk.now) (g.D.Disk.world c.loop-rows.disk) (g.D.Disk.world c.read_ahead.new.disk)
+pub returns-in_err-ahead-clause-twice : goal.returns-in_err-ahead-clause-twice
+returns-in_err-ahead-clause-twice g c = then_twice c.args.blocks c.loop-rows.left (2 * c.loop-rows.left) (g.D.Disk.world c.args.disk.now) (g.D.Disk.world c.loop-rows.disk) (g.D.Disk.world c.read_ahead.new.disk)
     (omega arith) c.loop-rows.invariant.within c.loop-rows.invariant.paced c.read_ahead.ensures.twice
 
-pub returns-in_err-left-clause-moves : goal.returns-in_err-left-clause-moves
-returns-in_err-left-clause-moves g c =
+pub returns-in_err-ahead-clause-moves : goal.returns-in_err-ahead-clause-moves
+returns-in_err-ahead-clause-moves g c =
     only_both (g.D.Disk.world c.args.disk.now) (g.D.Disk.world c.loop-rows.disk) (g.D.Disk.world c.read_ahead.new.disk) c.loop-rows.invariant.moves c.read_ahead.ensures.moves
 
-pub returns-in_err-left-clause-fault : goal.returns-in_err-left-clause-fault
-returns-in_err-left-clause-fault g c =
+pub returns-in_err-ahead-clause-fault : goal.returns-in_err-ahead-clause-fault
+returns-in_err-ahead-clause-fault g c =
     let old = c.loop-rows.rows in
     let here =
     later_fault g.D.Disk.tells c.args.tables.now.tables (numbers old.walks) (numbers c.args.rows.now.walks) (g.D.Disk.world c.args.disk.now) (g.D.Disk.world c.loop-rows.disk)
-    (g.D.Disk.world c.read_ahead.new.disk) c.in_err-left.field-0.0 c.loop-rows.invariant.stay.numbers_are c.loop-rows.invariant.moves c.in_err-left.ensures.fault in
+    (g.D.Disk.world c.read_ahead.new.disk) c.in_err-ahead.field-0.0 c.loop-rows.invariant.stay.numbers_are c.loop-rows.invariant.moves c.in_err-ahead.ensures.fault in
     search rules
 
-pub returns-then-left-eq0-clause-twice : goal.returns-then-left-eq0-clause-twice
-returns-then-left-eq0-clause-twice g c = then_twice c.args.blocks c.loop-rows.left (2 * c.loop-rows.left) (g.D.Disk.world c.args.disk.now) (g.D.Disk.world c.loop-rows.disk) (g.D.Disk.world c.read_ahead.new.disk)
+-- without a block that may be read none fails
+pub returns-in_err-ahead-clause-unread : goal.returns-in_err-ahead-clause-unread
+returns-in_err-ahead-clause-unread g c none =
+    let some = c.in_err-ahead.ensures.unread in
+    absurd (omega (arith, none, some, c.loop-rows.invariant.within))
+
+-- the next row wants a block
+pub returns-in_default-clause-stop : goal.returns-in_default-clause-stop
+returns-in_default-clause-stop g c =
+    let tables = c.args.tables.now.tables in
+    let first = c.args.rows.now in
+    let old = c.loop-rows.rows in
+    let mid = c.read_ahead.new.rows in
+    let from = c.loop-rows.invariant in
+    let read = c.in_ok-ahead.ensures in
+    let is : c.in_ok-ahead.ahead ≡ None = c.in_default.is in (
+      some_then c.args.blocks c.loop-rows.left 0 (blocks_left tables first.walks) (blocks_left tables old.walks) (blocks_left tables mid.walks)
+          (omega arith) from.fills.fewer read.fewer from.some
+          (subst (λ (o : Option ℕ). left_of o < c.loop-rows.left → blocks_left tables mid.walks < blocks_left tables old.walks) is read.some),
+      read.more is,
+    )
+
+pub returns-in_default-clause-twice : goal.returns-in_default-clause-twice
+returns-in_default-clause-twice g c = then_twice c.args.blocks c.loop-rows.left (2 * c.loop-rows.left) (g.D.Disk.world c.args.disk.now) (g.D.Disk.world c.loop-rows.disk) (g.D.Disk.world c.read_ahead.new.disk)
     (omega arith) c.loop-rows.invariant.within c.loop-rows.invariant.paced c.read_ahead.ensures.twice
 
-pub returns-then-left-eq0-clause-moves : goal.returns-then-left-eq0-clause-moves
-returns-then-left-eq0-clause-moves g c =
+pub returns-in_default-clause-moves : goal.returns-in_default-clause-moves
+returns-in_default-clause-moves g c =
     only_both (g.D.Disk.world c.args.disk.now) (g.D.Disk.world c.loop-rows.disk) (g.D.Disk.world c.read_ahead.new.disk) c.loop-rows.invariant.moves c.read_ahead.ensures.moves
 
 pub returns-then-not-advance_filled-clause-sources : goal.returns-then-not-advance_filled-clause-sources
@@ -133,11 +159,11 @@ returns-then-not-advance_filled-clause-sources g c =
     let begun = c.args.built.now.entries in
     let built = c.loop-rows.built.entries in
     let from = c.loop-rows.invariant in
-    let read = c.in_ok-left.ensures in
+    let read = c.in_ok-ahead.ensures in
     let held = from.moves.1.held in
-    let less : 0 < c.in_ok-left.left = omega (arith, c.if-left-eq0.false) in
+    let some_ahead : is_some c.in_ok-ahead.ahead ≡ true = ap (λ (o : Option ℕ). is_some o) c.in-Some.is in
     let kept : KeepsRows tells tables image old mid = subst (λ (h : Image). KeepsRows tells tables h old mid) held c.read_ahead.ensures.kept in
-    let step = step_of tells tables image (g.D.Disk.world c.loop-rows.disk).seen.held mid new held c.advance_filled.ensures.row (λ t. read.caught_up t less) in
+    let step = step_of tells tables image (g.D.Disk.world c.loop-rows.disk).seen.held mid new held c.advance_filled.ensures.row (λ t. read.caught_up t some_ahead) in
     let left = same_blocks tables mid new c.advance_filled.ensures.walks in
     stays_on tells tables image c.args.beside c.args.drops first old mid begun built from.stay from.fills kept read.fewer new step.0 step.1 left
 
@@ -146,8 +172,8 @@ returns-then-not-advance_filled-clause-building g c =
     let mid = c.read_ahead.new.rows in
     let new = c.advance_filled.new.self in
     let built = c.loop-rows.built.entries in
-    let less : 0 < c.in_ok-left.left = omega (arith, c.if-left-eq0.false) in
-    let step = c.advance_filled.ensures.row g.D.Disk.tells c.args.tables.now.tables (g.D.Disk.world c.loop-rows.disk).seen.held (λ t. c.in_ok-left.ensures.caught_up t less) in
+    let some_ahead : is_some c.in_ok-ahead.ahead ≡ true = ap (λ (o : Option ℕ). is_some o) c.in-Some.is in
+    let step = c.advance_filled.ensures.row g.D.Disk.tells c.args.tables.now.tables (g.D.Disk.world c.loop-rows.disk).seen.held (λ t. c.in_ok-ahead.ensures.caught_up t some_ahead) in
     let building = subst (λ (f : KeyFloor). IsBuilding f built) (sym c.read_ahead.ensures.kept.floor_is) c.loop-rows.invariant.building in
     building_rises mid.floor new.floor built (rises_on new.now mid.floor new.floor step.1.passes) building
 
@@ -163,11 +189,11 @@ returns-then-not-advance_filled-clause-taken g c =
     let begun = c.args.built.now.entries in
     let built = c.loop-rows.built.entries in
     let from = c.loop-rows.invariant in
-    let read = c.in_ok-left.ensures in
+    let read = c.in_ok-ahead.ensures in
     let held = from.moves.1.held in
-    let less : 0 < c.in_ok-left.left = omega (arith, c.if-left-eq0.false) in
+    let some_ahead : is_some c.in_ok-ahead.ahead ≡ true = ap (λ (o : Option ℕ). is_some o) c.in-Some.is in
     let kept : KeepsRows tells tables image old mid = subst (λ (h : Image). KeepsRows tells tables h old mid) held c.read_ahead.ensures.kept in
-    let step = step_of tells tables image (g.D.Disk.world c.loop-rows.disk).seen.held mid new held c.advance_filled.ensures.row (λ t. read.caught_up t less) in
+    let step = step_of tells tables image (g.D.Disk.world c.loop-rows.disk).seen.held mid new held c.advance_filled.ensures.row (λ t. read.caught_up t some_ahead) in
     let left = same_blocks tables mid new c.advance_filled.ensures.walks in
     let none : is_some new.now ≡ false = sym c.advance_filled.ensures.said ∙ c.if-not-advance_filled.true in
     fills_last tells tables image c.args.beside c.args.drops first old mid begun built from.stay from.fills kept read.fewer new step.0 step.1 left none
@@ -184,11 +210,11 @@ returns-then-not-advance_filled-clause-stop g c =
     let begun = c.args.built.now.entries in
     let built = c.loop-rows.built.entries in
     let from = c.loop-rows.invariant in
-    let read = c.in_ok-left.ensures in
+    let read = c.in_ok-ahead.ensures in
     let held = from.moves.1.held in
-    let less : 0 < c.in_ok-left.left = omega (arith, c.if-left-eq0.false) in
+    let some_ahead : is_some c.in_ok-ahead.ahead ≡ true = ap (λ (o : Option ℕ). is_some o) c.in-Some.is in
     let kept : KeepsRows tells tables image old mid = subst (λ (h : Image). KeepsRows tells tables h old mid) held c.read_ahead.ensures.kept in
-    let step = step_of tells tables image (g.D.Disk.world c.loop-rows.disk).seen.held mid new held c.advance_filled.ensures.row (λ t. read.caught_up t less) in
+    let step = step_of tells tables image (g.D.Disk.world c.loop-rows.disk).seen.held mid new held c.advance_filled.ensures.row (λ t. read.caught_up t some_ahead) in
     let left = same_blocks tables mid new c.advance_filled.ensures.walks in
     let none : is_some new.now ≡ false = sym c.advance_filled.ensures.said ∙ c.if-not-advance_filled.true in
     none_left tells tables image c.args.beside c.args.drops first old mid begun built from.stay from.fills kept read.fewer new step.0 step.1 left none
@@ -213,11 +239,11 @@ returns-in_err-add_row-clause-sources g c =
     let begun = c.args.built.now.entries in
     let built = c.loop-rows.built.entries in
     let from = c.loop-rows.invariant in
-    let read = c.in_ok-left.ensures in
+    let read = c.in_ok-ahead.ensures in
     let held = from.moves.1.held in
-    let less : 0 < c.in_ok-left.left = omega (arith, c.if-left-eq0.false) in
+    let some_ahead : is_some c.in_ok-ahead.ahead ≡ true = ap (λ (o : Option ℕ). is_some o) c.in-Some.is in
     let kept : KeepsRows tells tables image old mid = subst (λ (h : Image). KeepsRows tells tables h old mid) held c.read_ahead.ensures.kept in
-    let step = step_of tells tables image (g.D.Disk.world c.loop-rows.disk).seen.held mid new held c.advance_filled.ensures.row (λ t. read.caught_up t less) in
+    let step = step_of tells tables image (g.D.Disk.world c.loop-rows.disk).seen.held mid new held c.advance_filled.ensures.row (λ t. read.caught_up t some_ahead) in
     let left = same_blocks tables mid new c.advance_filled.ensures.walks in
     stays_on tells tables image c.args.beside c.args.drops first old mid begun built from.stay from.fills kept read.fewer new step.0 step.1 left
 
@@ -226,8 +252,8 @@ returns-in_err-add_row-clause-building g c =
     let mid = c.read_ahead.new.rows in
     let new = c.advance_filled.new.self in
     let built = c.loop-rows.built.entries in
-    let less : 0 < c.in_ok-left.left = omega (arith, c.if-left-eq0.false) in
-    let step = c.advance_filled.ensures.row g.D.Disk.tells c.args.tables.now.tables (g.D.Disk.world c.loop-rows.disk).seen.held (λ t. c.in_ok-left.ensures.caught_up t less) in
+    let some_ahead : is_some c.in_ok-ahead.ahead ≡ true = ap (λ (o : Option ℕ). is_some o) c.in-Some.is in
+    let step = c.advance_filled.ensures.row g.D.Disk.tells c.args.tables.now.tables (g.D.Disk.world c.loop-rows.disk).seen.held (λ t. c.in_ok-ahead.ensures.caught_up t some_ahead) in
     let building = subst (λ (f : KeyFloor). IsBuilding f built) (sym c.read_ahead.ensures.kept.floor_is) c.loop-rows.invariant.building in
     subst (IsBuilding new.floor) (sym (ap (λ (b : Built). b.entries) c.in_err-add_row.ensures.unchanged))
     (building_rises mid.floor new.floor built (rises_on new.now mid.floor new.floor step.1.passes) building)

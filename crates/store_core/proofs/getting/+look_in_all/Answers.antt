@@ -10,6 +10,9 @@ use Rattle.level_merge.specs.TablesAgree.{TablesAgree}
 use Rattle.store_core.specs.declared.getting.BlockRead.{BlockRead}
 use Rattle.store_core.proofs.Caches.{same_then, true_same}
 use Rattle.store_core.proofs.Founds.{said_first}
+use Rattle.store_core.specs.Looking.{AreReadSound, looked_tables}
+use Rattle.disk_trait.specs.Image.{Image}
+use Rattle.store_core.proofs.Lookeds.{looked_first, looked_next, sound_first, sound_next}
 use Rattle.store_core.proofs.Lookings.{by_first, found_said, named_first, named_next, no_entry, nothing_said, older_true, read_first, read_later, read_true, said_next, says_of_number, true_later, unkept_first, unkept_next, unkept_same, unread_both}
 use Rattle.store_core.proofs.ReadBounds.{next_bound, searched_first}
 use Rattle.store_core.proofs.ShownBlocks.{first_fault, older_fault}
@@ -256,3 +259,52 @@ pub returns-clause-moves : goal.returns-clause-moves
 returns-clause-moves g t c =
     named_next c.args.blocks.now c.args.key.now c.in-Some.table.now c.in-Some.older.now c.args.tables.now c.in-Some.ensures.cases.0 c.number-number.result c.number-number.ensures _ _ c.look_in.ensures.moves
     c.look_in.new.blocks c.look_in.ensures.same _ c.look_in_all.ensures.moves
+
+-- ---- what is said by the blocks themselves
+
+pub returns-then-is_some-clause-looked : goal.returns-then-is_some-clause-looked
+returns-then-is_some-clause-looked g t c tells =
+    let blocks = c.args.blocks.now in
+    let first = c.in-Some.table.now in
+    let more = c.in-Some.older.now in
+    let key = c.args.key.now in
+    let image = (g.D.Disk.world c.args.disk.now).seen.held in
+    let said = said_in c.in_ok-here.here.found c.look_in.new.buffer.items c.look_in.new.blocks.kept key in
+    looked_first blocks key image first more c.args.tables.now c.in-Some.ensures.cases.0 c.number-number.result c.number-number.ensures said
+    (found_said c.in_ok-here.here.found c.look_in.new.buffer.items c.look_in.new.blocks.kept key (sym c.is_some.ensures ∙ c.if-is_some.true) c.in_ok-here.ensures.found)
+    (c.in_ok-here.ensures.looked tells)
+
+pub returns-then-is_some-clause-sound : goal.returns-then-is_some-clause-sound
+returns-then-is_some-clause-sound g t c tells =
+    let blocks = c.args.blocks.now in
+    let first = c.in-Some.table.now in
+    let more = c.in-Some.older.now in
+    let key = c.args.key.now in
+    let image = (g.D.Disk.world c.args.disk.now).seen.held in
+    let said = said_in c.in_ok-here.here.found c.look_in.new.buffer.items c.look_in.new.blocks.kept key in
+    sound_first blocks key image first more c.args.tables.now c.in-Some.ensures.cases.0 c.number-number.result c.number-number.ensures said
+    (found_said c.in_ok-here.here.found c.look_in.new.buffer.items c.look_in.new.blocks.kept key (sym c.is_some.ensures ∙ c.if-is_some.true) c.in_ok-here.ensures.found)
+    (c.in_ok-here.ensures.looked tells) (c.in_ok-here.ensures.sound tells)
+
+pub returns-clause-looked : goal.returns-clause-looked
+returns-clause-looked g t c tells =
+    let blocks = c.args.blocks.now in
+    let first = c.in-Some.table.now in
+    let more = c.in-Some.older.now in
+    let key = c.args.key.now in
+    let image = (g.D.Disk.world c.args.disk.now).seen.held in
+    let nothing = nothing_said c.in_ok-here.here.found c.look_in.new.buffer.items c.look_in.new.blocks.kept key (sym c.is_some.ensures ∙ c.if-is_some.false) in
+    let said = said_in c.in_ok-later.later.found c.look_in_all.new.buffer.items c.look_in_all.new.blocks.kept key in
+    looked_next blocks key image first more c.args.tables.now c.in-Some.ensures.cases.0 c.number-number.result c.number-number.ensures c.look_in.new.blocks c.look_in.ensures.same said
+    (sym nothing ∙ c.in_ok-here.ensures.looked tells)
+    (subst (λ (h : Image). said ≡ looked_tables c.look_in.new.blocks more key h) c.look_in.ensures.moves.held (c.in_ok-later.ensures.looked tells))
+
+pub returns-clause-sound : goal.returns-clause-sound
+returns-clause-sound g t c tells =
+    let blocks = c.args.blocks.now in
+    let first = c.in-Some.table.now in
+    let more = c.in-Some.older.now in
+    let key = c.args.key.now in
+    let image = (g.D.Disk.world c.args.disk.now).seen.held in
+    sound_next blocks key image first more c.args.tables.now c.in-Some.ensures.cases.0 c.number-number.result c.number-number.ensures c.look_in.new.blocks c.look_in.ensures.same
+    (c.in_ok-here.ensures.sound tells) (subst (λ (h : Image). AreReadSound c.look_in.new.blocks more key h) c.look_in.ensures.moves.held (c.in_ok-later.ensures.sound tells))

@@ -57,3 +57,9 @@ pub returns-clause-within : goal.returns-clause-within
 returns-clause-within g c states tells held are =
     let some = c.look_in_all.ensures.bounded states tells held are in
     omega (arith, some, unkept_within c.standing_tables_are_read.ensures.keys g.F.RangeFilter.spelling c.args.blocks.now c.args.key.now _ c.args.tables.now states held)
+
+pub returns-clause-looked : goal.returns-clause-looked
+returns-clause-looked g c tells =
+    said_stays c.in_ok-looked.looked.found c.in_ok-looked.looked.read c.look_in_all.new.buffer.items c.args.key.now c.look_in_all.new.blocks c.keep_read.new.blocks (length c.args.tables.now)
+    c.in_ok-looked.ensures.found c.in_ok-looked.ensures.read (kept_read c.in_ok-looked.looked.read c.deref.result.now c.look_in_all.new.buffer.items c.look_in_all.new.blocks c.keep_read.new.blocks c.deref.ensures.value c.keep_read.ensures)
+    ∙ c.in_ok-looked.ensures.looked tells

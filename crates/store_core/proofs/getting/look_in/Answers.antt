@@ -10,6 +10,7 @@ use Rattle.store_core.specs.Caching.{AreSame, Cached, IsFirst, said_by}
 use Rattle.store_core.specs.Getting.{IsFoundAt, said_in}
 use Rattle.store_core.specs.declared.getting.Spot.{Spot}
 use Rattle.store_core.proofs.Caches.{brought_same, is_first, same_itself}
+use Rattle.store_core.proofs.Lookeds.{looked_kept, looked_none, looked_read, sound_kept, sound_none, sound_read}
 use Rattle.store_core.proofs.Lookings.{found_read, not_kept, read_as, said_kept, said_read}
 use Rattle.store_core.proofs.ReadBounds.{some_read}
 use Rattle.table_file.proofs.Stands.{answer, no_answer}
@@ -103,3 +104,36 @@ returns-clause-answer g c parts tells s are =
 pub returns-clause-says : goal.returns-clause-says
 returns-clause-says g c parts tells s =
     λ key named. answer g.F.RangeFilter.spelling c.args.table.now parts _ s key c.in-Some.block named _ (c.in_ok-size.ensures.bytes tells)
+
+-- ---- what is said by the blocks themselves
+
+pub returns-in_default-clause-looked : goal.returns-in_default-clause-looked
+returns-in_default-clause-looked g c tells = looked_none c.args.blocks.now.kept c.args.number c.args.table.now c.args.key.now _ (sym c.in_default.ensures)
+
+pub returns-in_default-clause-sound : goal.returns-in_default-clause-sound
+returns-in_default-clause-sound g c tells = sound_none c.args.blocks.now.kept c.args.number c.args.table.now c.args.key.now _ (sym c.in_default.ensures)
+
+pub returns-then-has-clause-looked : goal.returns-then-has-clause-looked
+returns-then-has-clause-looked g c tells =
+    let place : BlockPlace = (c.args.number, c.in-Some.block) in
+    let key = c.args.key.now in
+    let kept = ap (λ (x : Cached). kept_of place x.kept) c.has.ensures.brought ∙ get_same place place c.args.blocks.now.kept in
+    c.find_kept-found.ensures.said c.args.buffer.now.items ∙ ap (λ (o : Option Bytes). said_by o key) kept
+    ∙ looked_kept c.args.blocks.now.kept c.args.number c.args.table.now key _ c.in-Some.block (sym c.block_for.ensures ∙ c.in-Some.is) (sym c.has.ensures.is_kept ∙ c.if-has.true)
+
+pub returns-then-has-clause-sound : goal.returns-then-has-clause-sound
+returns-then-has-clause-sound g c tells =
+    sound_kept c.args.blocks.now.kept c.args.number c.args.table.now c.args.key.now _ c.in-Some.block (sym c.block_for.ensures ∙ c.in-Some.is) (sym c.has.ensures.is_kept ∙ c.if-has.true)
+
+pub returns-clause-looked : goal.returns-clause-looked
+returns-clause-looked g c tells =
+    let place : BlockPlace = (c.args.number, c.in-Some.block) in
+    let key = c.args.key.now in
+    ap (λ (o : Option Spot). said_in o c.read_in.new.buffer.items c.has.new.self.kept key) c.then_some.ensures
+    ∙ said_read c.in_ok-size.size c.read_in.new.buffer.items key c.has.new.self.kept c.in_ok-size.has c.in_ok-size.ensures.has
+    ∙ looked_read c.args.blocks.now.kept c.args.number c.args.table.now key _ c.in-Some.block (sym c.block_for.ensures ∙ c.in-Some.is)
+    (not_kept c.args.blocks.now place c.has.result c.has.ensures.is_kept c.if-has.false) _ (c.in_ok-size.ensures.bytes tells)
+
+pub returns-clause-sound : goal.returns-clause-sound
+returns-clause-sound g c tells =
+    sound_read c.args.blocks.now.kept c.args.number c.args.table.now c.args.key.now _ c.in-Some.block (sym c.block_for.ensures ∙ c.in-Some.is) (c.in_ok-size.ensures.sound tells)

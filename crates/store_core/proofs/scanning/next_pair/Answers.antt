@@ -10,7 +10,7 @@ use Rattle.merge_rows.proofs.Steps.{none_of}
 use Rattle.merge_rows.specs.Reads.{SomeBlock}
 use Rattle.merge_rows.specs.Steps.{AreWalksIn, IsSoundMerge, RowPasses, numbers}
 use Rattle.store_core.proofs.ScanCauses.{as_many_walks, block_cause, fault_at, kept_at, none_value, paced_at, reads_on, pair_some, some_mapped, step_at}
-use Rattle.store_core.proofs.ScanSteps.{all_bounded, none_below, none_left, one_on, pair_given, set_out, stay_then, still_pairs}
+use Rattle.store_core.proofs.ScanSteps.{all_bounded, all_spent, all_tried, none_below, none_left, one_on, pair_given, set_out, stay_then, still_pairs}
 use Rattle.store_core.specs.Scans.{pair_in}
 use Rattle.table_file.specs.Search.{IsGetFault}
 use Rattle.store_core.proofs.scanning.next_pair.Goals as goal
@@ -50,6 +50,15 @@ returns-in_err-advance-clause-bounded g c so sound =
     all_bounded g.D.Disk.tells before.seen.held tables (option_map (λ v. v.items) c.args.high.now) c.args.rows.now c.requires.keeps before.seen.reads c.loop-rows.rows
     (g.D.Disk.world c.loop-rows.disk).seen.reads c.loop-rows.invariant.way c.advance.new.self (g.D.Disk.world c.advance.new.disk).seen.reads
     (λ so keeps sound. (c.advance.ensures.bounded so keeps (subst (λ (f : Image). IsSoundMerge c.loop-rows.rows tables f) (sym c.loop-rows.invariant.moves.1.held) sound)).reads) so sound
+
+pub returns-in_err-advance-clause-tried : goal.returns-in_err-advance-clause-tried
+returns-in_err-advance-clause-tried g c so sound =
+    let before = g.D.Disk.world c.args.disk.now in
+    let tables = c.args.tables.now.tables in
+    let here = all_tried g.D.Disk.tells before.seen.held tables (option_map (λ v. v.items) c.args.high.now) c.args.rows.now c.requires.keeps before.seen.reads c.loop-rows.rows
+    (g.D.Disk.world c.loop-rows.disk).seen.reads c.loop-rows.invariant.way c.advance.new.self (g.D.Disk.world c.advance.new.disk).seen.reads
+    (λ so sound. c.in_err-advance.ensures.tried so (subst (λ (f : Image). IsSoundMerge c.loop-rows.rows tables f) (sym c.loop-rows.invariant.moves.1.held) sound)) so sound in
+    search rules
 
 pub returns-in_err-advance-clause-only_if_read : goal.returns-in_err-advance-clause-only_if_read
 returns-in_err-advance-clause-only_if_read g c =
@@ -103,6 +112,14 @@ returns-in-None-clause-bounded g c so sound =
     (g.D.Disk.world c.loop-rows.disk).seen.reads c.loop-rows.invariant.way c.advance.new.self (g.D.Disk.world c.advance.new.disk).seen.reads
     (λ so keeps sound. (c.advance.ensures.bounded so keeps (subst (λ (f : Image). IsSoundMerge c.loop-rows.rows tables f) (sym c.loop-rows.invariant.moves.1.held) sound)).reads) so sound
 
+pub returns-in-None-clause-spent : goal.returns-in-None-clause-spent
+returns-in-None-clause-spent g c so sound =
+    let before = g.D.Disk.world c.args.disk.now in
+    let tables = c.args.tables.now.tables in
+    all_spent g.D.Disk.tells before.seen.held tables (option_map (λ v. v.items) c.args.high.now) c.args.rows.now c.requires.keeps before.seen.reads c.loop-rows.rows
+    (g.D.Disk.world c.loop-rows.disk).seen.reads c.loop-rows.invariant.way c.advance.new.self (g.D.Disk.world c.advance.new.disk).seen.reads
+    (λ so sound. c.in_ok-advance.ensures.spent so (subst (λ (f : Image). IsSoundMerge c.loop-rows.rows tables f) (sym c.loop-rows.invariant.moves.1.held) sound)) so sound
+
 pub returns-in-None-clause-moves : goal.returns-in-None-clause-moves
 returns-in-None-clause-moves g c =
     reads_on (g.D.Disk.world c.args.disk.now) (g.D.Disk.world c.loop-rows.disk) (g.D.Disk.world c.advance.new.disk) c.loop-rows.invariant.moves c.advance.ensures.moves
@@ -137,6 +154,14 @@ returns-then-is_above-clause-bounded g c so sound =
     all_bounded g.D.Disk.tells before.seen.held tables (option_map (λ v. v.items) c.args.high.now) c.args.rows.now c.requires.keeps before.seen.reads c.loop-rows.rows
     (g.D.Disk.world c.loop-rows.disk).seen.reads c.loop-rows.invariant.way c.advance.new.self (g.D.Disk.world c.advance.new.disk).seen.reads
     (λ so keeps sound. (c.advance.ensures.bounded so keeps (subst (λ (f : Image). IsSoundMerge c.loop-rows.rows tables f) (sym c.loop-rows.invariant.moves.1.held) sound)).reads) so sound
+
+pub returns-then-is_above-clause-spent : goal.returns-then-is_above-clause-spent
+returns-then-is_above-clause-spent g c so sound =
+    let before = g.D.Disk.world c.args.disk.now in
+    let tables = c.args.tables.now.tables in
+    all_spent g.D.Disk.tells before.seen.held tables (option_map (λ v. v.items) c.args.high.now) c.args.rows.now c.requires.keeps before.seen.reads c.loop-rows.rows
+    (g.D.Disk.world c.loop-rows.disk).seen.reads c.loop-rows.invariant.way c.advance.new.self (g.D.Disk.world c.advance.new.disk).seen.reads
+    (λ so sound. c.in_ok-advance.ensures.spent so (subst (λ (f : Image). IsSoundMerge c.loop-rows.rows tables f) (sym c.loop-rows.invariant.moves.1.held) sound)) so sound
 
 pub returns-then-is_above-clause-moves : goal.returns-then-is_above-clause-moves
 returns-then-is_above-clause-moves g c =
@@ -179,6 +204,14 @@ returns-then-is_some-clause-bounded g c so sound =
     (g.D.Disk.world c.loop-rows.disk).seen.reads c.loop-rows.invariant.way c.advance.new.self (g.D.Disk.world c.advance.new.disk).seen.reads
     (λ so keeps sound. (c.advance.ensures.bounded so keeps (subst (λ (f : Image). IsSoundMerge c.loop-rows.rows tables f) (sym c.loop-rows.invariant.moves.1.held) sound)).reads) so sound
 
+pub returns-then-is_some-clause-spent : goal.returns-then-is_some-clause-spent
+returns-then-is_some-clause-spent g c so sound =
+    let before = g.D.Disk.world c.args.disk.now in
+    let tables = c.args.tables.now.tables in
+    all_spent g.D.Disk.tells before.seen.held tables (option_map (λ v. v.items) c.args.high.now) c.args.rows.now c.requires.keeps before.seen.reads c.loop-rows.rows
+    (g.D.Disk.world c.loop-rows.disk).seen.reads c.loop-rows.invariant.way c.advance.new.self (g.D.Disk.world c.advance.new.disk).seen.reads
+    (λ so sound. c.in_ok-advance.ensures.spent so (subst (λ (f : Image). IsSoundMerge c.loop-rows.rows tables f) (sym c.loop-rows.invariant.moves.1.held) sound)) so sound
+
 pub returns-then-is_some-clause-moves : goal.returns-then-is_some-clause-moves
 returns-then-is_some-clause-moves g c =
     reads_on (g.D.Disk.world c.args.disk.now) (g.D.Disk.world c.loop-rows.disk) (g.D.Disk.world c.advance.new.disk) c.loop-rows.invariant.moves c.advance.ensures.moves
@@ -207,7 +240,8 @@ loop-rows-preserved g c =
           (λ so keeps sound. (c.advance.ensures.bounded so keeps (subst (λ (f : Image). IsSoundMerge c.loop-rows.rows tables f) (sym same) sound)).reads) kept step
           (λ so keeps. paced_at g.D.Disk.tells tables _ _ same c.loop-rows.rows c.advance.new.self (c.in_ok-advance.ensures.paced so keeps))
           c.merged_laws.ensures row some (c.is_above.ensures ∙ ap not c.if-is_above.false)
-          (none_value (option_map (λ v. v.now) c.in-Some.value) (some_mapped (λ v. v.now) c.in-Some.value ∙ sym c.is_some.ensures ∙ c.if-is_some.false));
+          (none_value (option_map (λ v. v.now) c.in-Some.value) (some_mapped (λ v. v.now) c.in-Some.value ∙ sym c.is_some.ensures ∙ c.if-is_some.false))
+          (λ so sound. c.in_ok-advance.ensures.spent so (subst (λ (f : Image). IsSoundMerge c.loop-rows.rows tables f) (sym same) sound));
       moves = reads_on before (g.D.Disk.world c.loop-rows.disk) (g.D.Disk.world c.advance.new.disk) c.loop-rows.invariant.moves c.advance.ensures.moves;
     }
 
@@ -239,6 +273,14 @@ returns-clause-bounded g c so sound =
     all_bounded g.D.Disk.tells before.seen.held tables (option_map (λ v. v.items) c.args.high.now) c.args.rows.now c.requires.keeps before.seen.reads c.loop-rows.rows
     (g.D.Disk.world c.loop-rows.disk).seen.reads c.loop-rows.invariant.way c.advance.new.self (g.D.Disk.world c.advance.new.disk).seen.reads
     (λ so keeps sound. (c.advance.ensures.bounded so keeps (subst (λ (f : Image). IsSoundMerge c.loop-rows.rows tables f) (sym c.loop-rows.invariant.moves.1.held) sound)).reads) so sound
+
+pub returns-clause-spent : goal.returns-clause-spent
+returns-clause-spent g c so sound =
+    let before = g.D.Disk.world c.args.disk.now in
+    let tables = c.args.tables.now.tables in
+    all_spent g.D.Disk.tells before.seen.held tables (option_map (λ v. v.items) c.args.high.now) c.args.rows.now c.requires.keeps before.seen.reads c.loop-rows.rows
+    (g.D.Disk.world c.loop-rows.disk).seen.reads c.loop-rows.invariant.way c.advance.new.self (g.D.Disk.world c.advance.new.disk).seen.reads
+    (λ so sound. c.in_ok-advance.ensures.spent so (subst (λ (f : Image). IsSoundMerge c.loop-rows.rows tables f) (sym c.loop-rows.invariant.moves.1.held) sound)) so sound
 
 pub returns-clause-moves : goal.returns-clause-moves
 returns-clause-moves g c =

@@ -1,15 +1,18 @@
-use Rattle.std.proofs.Common.{◌≡◌, ◌∙◌, ◌<◌, ◌-◌, ℕ, inl, true, false, [], length, refl, sym, ap, subst}
+use Rattle.std.proofs.Common.{◌≡◌, ◌∙◌, ◌<◌, ◌-◌, ℕ, Bool, List, inl, true, false, [], length, refl, sym, ap, subst}
 use Rattle.level_merge.specs.JobValue.{JobValue, is_full}
 use Rattle.level_merge.specs.Outputs.{last_row}
-use Rattle.level_merge.specs.SliceSteps.{IsStop}
+use Rattle.level_merge.specs.SliceSteps.{IsStop, LooksOn, SaysWhatIsLeft}
+use Rattle.level_merge.specs.declared.fault.Sliced.{Sliced}
 use Rattle.level_merge.specs.declared.fault.Sliced.TheVariants as sliced
 use Rattle.level_merge.specs.declared.taking.Stop.{Stop}
 use Rattle.level_merge.proofs.OutputLists.{full_has}
 use Rattle.level_merge.proofs.SliceMoves.{closed_moves}
-use Rattle.level_merge.proofs.SliceSteps.{all_read, close_refused, ends, last_output, next_output, no_length, nothing_next, ready_with_none, some_length, take_refused, waits, works}
-use Rattle.level_merge.proofs.Slicing.{closed_last, closed_none, closed_one, had_nothing, took_no_row, waited}
-use Rattle.merge_rows.specs.Merges.{rows_left}
-use Rattle.merge_rows.specs.Steps.{numbers}
+use Rattle.level_merge.proofs.SliceSteps.{all_read, close_refused, ends, last_output, looked_on, makes_one, next_output, no_length, none_of_length, nothing_next, one_more, ready_with_none, some_length, take_refused, waits}
+use Rattle.level_merge.proofs.Slicing.{closed_last, closed_none, closed_then, closed_without_memory, had_nothing, took_no_row, waited}
+use Rattle.disk_trait.specs.Image.{Image}
+use Rattle.merge_rows.specs.Merges.{Merge, rows_left}
+use Rattle.merge_rows.specs.Steps.{AreWalksIn, numbers, stands}
+use Rattle.table_file.specs.Opened.{Opened}
 use Rattle.state_model.specs.Merges.{lasting, outputs_of}
 use Rattle.table_model.specs.Tables.{filter_bytes_of}
 use Rattle.level_merge.proofs.job.Job.go_on.Goals as goal
@@ -41,9 +44,9 @@ returns-in-Ok-Blocks g c =
     let takes = c.in-Ok-Blocks.ensures.taken in
     let why = subst (λ (s : Stop). IsStop tells c.args.blocks opened before.seen.held old.beside old.merge mid.merge mid.built s) c.in-Ok-Blocks.field-0-is c.in-Ok-Blocks.ensures.stop in
     waited spelling cutoff tells c.args.blocks opened old mid free before here c.take_rows.ensures.rest reads c.take_rows.ensures.level c.take_rows.ensures.numbers c.take_rows.ensures.stands c.take_rows.ensures.twice c.take_rows.ensures.bounded
-    takes.fewer (why c.requires.some)
+    takes.fewer (why.0 c.requires.some) why.1
     (λ t tables left made others held makes taken.
-    waits standing spelling cutoff opened tables old mid left made others free before here tells t held makes taken takes reads sliced.Working (inl (why c.requires.some)))
+    waits standing spelling cutoff opened tables old mid left made others free before here tells t held makes taken takes reads sliced.Working (inl (why.0 c.requires.some), inl why.1))
 
 -- ---- no row could be taken
 
@@ -66,8 +69,13 @@ returns-in-Err g c =
 
 -- ---- the output is full
 
-pub returns-in-Ok : goal.returns-in-Ok
-returns-in-Ok g c =
+pub look_on-requires : goal.look_on-requires
+look_on-requires g c =
+    let tables = c.args.tables.now.tables in
+    record { there = subst (AreWalksIn tables) (sym (ap (λ (m : Merge). stands m.walks) c.close.ensures.merge ∙ c.take_rows.ensures.stands)) c.requires.there }
+
+pub returns-in-Ok-look_on : goal.returns-in-Ok-look_on
+returns-in-Ok-look_on g c =
     let tells = g.D.Disk.tells in
     let spelling = g.F.RangeFilter.spelling in
     let cutoff = g.F.RangeFilter.built_cutoff in
@@ -84,15 +92,36 @@ returns-in-Ok g c =
     let new = c.close.new.self in
     let extents = c.close.new.extents in
     let after = g.D.Disk.world c.close.new.disk in
+    let last = c.look_on.new.self in
+    let end = g.D.Disk.world c.look_on.new.disk in
     let full : is_full mid.beside mid.built ≡ true = subst (λ (n : ℕ). is_full n mid.built ≡ true) (sym (ap (λ (m : JobValue). m.beside) c.take_rows.ensures.rest)) why in
     let later = outputs_of (mid.beside - 1) (lasting mid.drops (rows_left mid.merge opened before.seen.held)) in
     let closes = c.in-Ok.ensures.closed in
-    closed_one spelling cutoff tells c.args.blocks opened old mid free before here c.take_rows.ensures.rest reads c.take_rows.ensures.level c.take_rows.ensures.numbers c.take_rows.ensures.stands c.take_rows.ensures.twice c.take_rows.ensures.bounded new extents after c.close.ensures.merge c.close.ensures.same c.close.ensures.writes
-    (last_row new.outputs) closes takes.fewer full
+    let said = c.in-Ok-look_on.said in
+    let found = c.in-Ok-look_on.ensures.said in
+    let whole : new.merge.drops ≡ false = ap (λ (m : Merge). m.drops) c.close.ensures.merge ∙ takes.sources.drops_are ∙ c.take_rows.ensures.whole in
+    closed_then spelling cutoff tells c.args.blocks opened old mid free before here c.take_rows.ensures.rest reads c.take_rows.ensures.level c.take_rows.ensures.numbers c.take_rows.ensures.stands c.take_rows.ensures.twice c.take_rows.ensures.bounded new extents after c.close.ensures.merge c.close.ensures.same c.close.ensures.writes
+    last end c.look_on.ensures.rest c.look_on.ensures.numbers c.look_on.ensures.stands c.look_on.ensures.moves
+    (last_row new.outputs) closes takes.fewer full c.in-Ok-look_on.ensures.taken.fewer said (of_found tells opened after.seen.held new last said found)
     (λ t tables left made others held makes taken.
     let first = next_output standing spelling cutoff opened tables old mid left made others free before here tells t held makes taken takes reads full in
-    works standing spelling cutoff opened tables old mid left made others free before here tells t held makes taken takes reads later first new extents (last_row new.outputs) after closes
-    (closed_moves spelling cutoff mid new free extents (last_row new.outputs) here after closes c.close.ensures.writes) (c.in-Ok.ensures.stands t) (g.met.D.Disk.current c.close.new.disk t) refl)
+    let goes = makes_one standing spelling cutoff opened tables old mid left made others free before here tells t held makes taken takes reads later first new extents (last_row new.outputs) after closes
+    (closed_moves spelling cutoff mid new free extents (last_row new.outputs) here after closes c.close.ensures.writes) (c.in-Ok.ensures.stands t) (g.met.D.Disk.current c.close.new.disk t) refl in
+    let more = one_more standing spelling cutoff opened tables old mid left made others free before here tells t held makes taken takes reads later first new extents (last_row new.outputs) after closes
+    (closed_moves spelling cutoff mid new free extents (last_row new.outputs) here after closes c.close.ensures.writes) (c.in-Ok.ensures.stands t) (g.met.D.Disk.current c.close.new.disk t) refl in
+    looked_on spelling (filter_bytes_of spelling cutoff) opened tables old new last left made others free extents before after end tells t goes more c.in-Ok-look_on.ensures.taken c.look_on.ensures.moves whole said found)
+  where
+    of_found : (tells : Bool) (opened : List Opened) (image : Image) (old new : JobValue) (said : Sliced) → LooksOn tells opened image old new said → SaysWhatIsLeft opened new said
+    of_found tells opened image old new sliced.Working is = is
+    of_found tells opened image old new sliced.Ready is = is.0
+
+pub returns-in-Err-look_on : goal.returns-in-Err-look_on
+returns-in-Err-look_on g c =
+    let new = c.close.new.self in
+    let last = c.look_on.new.self in
+    closed_without_memory g.F.RangeFilter.spelling g.F.RangeFilter.built_cutoff g.D.Disk.tells c.args.blocks c.args.tables.now.tables c.args.self.now c.take_rows.new.self c.args.extents.now (g.D.Disk.world c.args.disk.now) (g.D.Disk.world c.take_rows.new.disk)
+    c.take_rows.ensures.rest c.take_rows.ensures.moves c.take_rows.ensures.level c.take_rows.ensures.numbers c.take_rows.ensures.stands c.take_rows.ensures.twice c.take_rows.ensures.bounded new c.close.new.extents (g.D.Disk.world c.close.new.disk) c.close.ensures.merge c.close.ensures.same c.close.ensures.writes
+    last (g.D.Disk.world c.look_on.new.disk) c.look_on.ensures.rest c.look_on.ensures.numbers c.look_on.ensures.stands c.look_on.ensures.moves c.in-Err-look_on.why c.in-Err-look_on.ensures.memory
 
 pub returns-in-Err-close : goal.returns-in-Err-close
 returns-in-Err-close g c =
@@ -140,7 +169,7 @@ returns-then-is_empty g c =
     let whole = sym takes.sources.drops_are ∙ subst (λ (m : JobValue). m.merge.drops ≡ false) c.self.view_is c.self.invariant.whole in
     let empty = subst (λ (m : JobValue). length m.built ≡ 0) c.self.view_is (no_length c.self.inside.built.entries (sym c.is_empty.ensures ∙ c.if-is_empty.true)) in
     had_nothing spelling cutoff tells c.args.blocks opened old mid free before here c.take_rows.ensures.rest reads c.take_rows.ensures.level c.take_rows.ensures.numbers c.take_rows.ensures.stands c.take_rows.ensures.twice c.take_rows.ensures.bounded
-    takes.fewer
+    takes.fewer (none_of_length mid.built empty)
     (λ t tables left made others held makes taken.
     let none = why t makes.sound in
     ready_with_none standing spelling cutoff opened tables old mid left made others free before here tells t held makes taken takes reads whole none empty)

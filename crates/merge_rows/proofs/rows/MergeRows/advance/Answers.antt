@@ -1,11 +1,11 @@
-use Rattle.std.proofs.Common.{◌≡◌, ◌≤◌, ◌∙◌, ℕ, List, true, false, sym, subst, arith}
+use Rattle.std.proofs.Common.{◌≡◌, ◌+◌, ◌≤◌, ◌∙◌, ℕ, List, true, false, sym, subst, arith}
 use Rattle.std.specs.Prelude.{Contains, IsTrue, is_some}
 use Rattle.std.proofs.lemmas.Bool.{false≢true}
 use Rattle.disk_trait.specs.Image.{Image}
 use Rattle.block_model.specs.Places.{byte_of_page}
 use Rattle.key_base.specs.Limits.{max_key_bytes}
 use Rattle.merge_rows.specs.Merges.{Merge, merged_left}
-use Rattle.merge_rows.specs.Reads.{wanted}
+use Rattle.merge_rows.specs.Reads.{blocks_left, wanted}
 use Rattle.merge_rows.specs.Steps.{HandsOutRow, IsPaced, IsSoundMerge, SourcesStay, StaysAt}
 use Rattle.table_file.specs.Search.{IsGetFault, page_at}
 use Rattle.merge_rows.proofs.Fills.{cause_since}
@@ -177,6 +177,10 @@ loop-why-preserved g c =
       rises = rises_then first.floor old.floor new.floor from.rises (rises_on new.now old.floor new.floor c.in-Ok-true.ensures.passes);
       moves = only_both before mid after from.moves c.step.ensures.moves;
       left = (let one = from.left in let two = c.in-Ok-true.ensures.left in omega (arith, one, two));
+      spent = λ t s.
+          let one = from.spent t s in
+          let two = subst (λ (h : Image). IsSoundMerge old tables h → after.seen.reads + blocks_left tables new.walks ≤ mid.seen.reads + blocks_left tables old.walks) held (c.in-Ok-true.ensures.spent t) (from.stay.sound t s) in
+          omega (arith, one, two);
       counted = λ t. let one = from.counted t in let two = c.in-Ok-true.ensures.counted t in omega (arith, one, two);
       first = λ all. absurd (false≢true (sym all ∙ sym from.stay.drops_are ∙ sym kept.drops_are ∙ hidden_drops new.drops new.now some c.if-is_shown.ensures));
     }
@@ -205,3 +209,44 @@ returns-then-is_shown-clause-paced g c t all =
     let from = c.loop-why.invariant in
     subst (λ (m : Merge). IsPaced tables (g.D.Disk.world c.args.disk.now).seen.held m c.step.new.self) (from.first all).0
     (subst (λ (h : Image). IsPaced tables h c.loop-why.self c.step.new.self) from.moves.1.held (c.in-Ok-true.ensures.paced t))
+
+-- ---- no more blocks were read than fewer are left
+
+pub returns-in-Ok-false-clause-spent : goal.returns-in-Ok-false-clause-spent
+returns-in-Ok-false-clause-spent g c t s =
+    let tables = c.args.tables.now.tables in
+    let mid = g.D.Disk.world c.loop-why.disk in
+    let after = g.D.Disk.world c.step.new.disk in
+    let old = c.loop-why.self in
+    let new = c.step.new.self in
+    let from = c.loop-why.invariant in
+    let held = from.moves.1.held in
+    let one = from.spent t s in
+    let two = subst (λ (h : Image). IsSoundMerge old tables h → after.seen.reads + blocks_left tables new.walks ≤ mid.seen.reads + blocks_left tables old.walks) held (c.in-Ok-false.ensures.spent t) (from.stay.sound t s) in
+    omega (arith, one, two)
+
+pub returns-then-is_shown-clause-spent : goal.returns-then-is_shown-clause-spent
+returns-then-is_shown-clause-spent g c t s =
+    let tables = c.args.tables.now.tables in
+    let mid = g.D.Disk.world c.loop-why.disk in
+    let after = g.D.Disk.world c.step.new.disk in
+    let old = c.loop-why.self in
+    let new = c.step.new.self in
+    let from = c.loop-why.invariant in
+    let held = from.moves.1.held in
+    let one = from.spent t s in
+    let two = subst (λ (h : Image). IsSoundMerge old tables h → after.seen.reads + blocks_left tables new.walks ≤ mid.seen.reads + blocks_left tables old.walks) held (c.in-Ok-true.ensures.spent t) (from.stay.sound t s) in
+    omega (arith, one, two)
+
+pub returns-in-Err-clause-tried : goal.returns-in-Err-clause-tried
+returns-in-Err-clause-tried g c t s =
+    let tables = c.args.tables.now.tables in
+    let mid = g.D.Disk.world c.loop-why.disk in
+    let after = g.D.Disk.world c.step.new.disk in
+    let old = c.loop-why.self in
+    let new = c.step.new.self in
+    let from = c.loop-why.invariant in
+    let held = from.moves.1.held in
+    let one = from.spent t s in
+    let two = subst (λ (h : Image). IsSoundMerge old tables h → after.seen.reads ≤ mid.seen.reads + blocks_left tables old.walks) held (c.in-Err.ensures.tried t) (from.stay.sound t s) in
+    omega (arith, one, two)

@@ -20,6 +20,7 @@ invariant-loop-why g l =
       rises : FloorRises l.fn.self.floor l.self.floor;
       moves : OnlyReads before after;
       left : blocks_left l.tables.tables l.self.walks ≤ blocks_left l.tables.tables l.fn.self.walks;
+      spent : tells → IsSoundMerge l.fn.self l.tables.tables before.seen.held → after.seen.reads + blocks_left l.tables.tables l.self.walks ≤ before.seen.reads + blocks_left l.tables.tables l.fn.self.walks;
       counted : tells → after.seen.reads + next_blocks l.fn.self.walks ≡ before.seen.reads + next_blocks l.self.walks;
       first : l.fn.self.drops ≡ false → (l.self ≡ l.fn.self) × ReadMoves 0 before after;
     }

@@ -11,6 +11,7 @@ use Rattle.table_file.specs.Walks.{first_of}
 use Rattle.merge_rows.proofs.Fills.{cause_since}
 use Rattle.merge_rows.proofs.FirstFills.{fewer_err, fewer_one}
 use Rattle.merge_rows.proofs.Stays.{fewer_then, only_then, read_none, read_one, sound_too, stays_since, still_some}
+use Rattle.merge_rows.proofs.WantedLeft.{wanted_left}
 use Rattle.merge_rows.proofs.rows.MergeRows.catch_up.Goals as goal
 
 pub loop-why-preserved : goal.loop-why-preserved
@@ -30,6 +31,10 @@ loop-why-preserved g c =
       memory = subst (λ (es : List Entry). IsCaughtUp c.args.self.now.floor (first_of es) es) (sym c.fill.ensures.memory) from.memory;
       moves = only_then 2 before mid after from.moves c.fill.ensures.moves;
       left = omega (arith, fewer, from.left);
+      spent = λ t s.
+          let once = subst (λ (h : Image). IsSoundMerge old tables h → ReadMoves 1 mid after) held (λ u. (c.fill.ensures.once t u).0) (sound_too tables before.seen.held old (from.stays.sources.sound t s)) in
+          let one = from.spent t s in
+          omega (arith, one, once.reads, fewer);
       counted = λ t. let one = from.counted t in let two = c.in-Ok-true.ensures.counted t in omega (arith, one, two);
       bounded = λ t s.
           let once = subst (λ (h : Image). IsSoundMerge old tables h → ReadMoves 1 mid after × IsFewer c.fill.result (wanted old tables) (wanted new tables)) held (c.fill.ensures.once t) (sound_too tables before.seen.held old (from.stays.sources.sound t s)) in
@@ -80,3 +85,30 @@ returns-in-Err-clause-owed g c t s =
     let some = fewer_err c.fill.result c.in-Err.why (wanted old tables) (wanted new tables) c.in-Err.is fewer in
     let most = (from.bounded t s).0 in
     omega (arith, some, most)
+
+-- ---- no more blocks were read than fewer are left
+
+pub returns-in-Ok-false-clause-spent : goal.returns-in-Ok-false-clause-spent
+returns-in-Ok-false-clause-spent g c t s =
+    let tables = c.args.tables.now.tables in
+    let is : c.fill.result ≡ Ok false = c.in-Ok-false.is ∙ ap (λ (b : Bool). Ok b) c.in-Ok-false.field-0-test in
+    let same : blocks_left tables c.fill.new.self.walks ≡ blocks_left tables c.loop-why.self.walks =
+    read_none c.fill.result (blocks_left tables c.loop-why.self.walks) (blocks_left tables c.fill.new.self.walks) is c.fill.ensures.left in
+    let idle = c.in-Ok-false.ensures.idle c.in-Ok-false.field-0-test in
+    let one = c.loop-why.invariant.spent t s in
+    omega (arith, one, same, idle.reads)
+
+pub returns-in-Err-clause-tried : goal.returns-in-Err-clause-tried
+returns-in-Err-clause-tried g c t s =
+    let tables = c.args.tables.now.tables in
+    let before = g.D.Disk.world c.args.disk.now in
+    let mid = g.D.Disk.world c.loop-why.disk in
+    let after = g.D.Disk.world c.fill.new.disk in
+    let old = c.loop-why.self in
+    let new = c.fill.new.self in
+    let from = c.loop-why.invariant in
+    let once = subst (λ (h : Image). IsSoundMerge old tables h → ReadMoves 1 mid after × IsFewer c.fill.result (wanted old tables) (wanted new tables)) from.moves.1.held (c.fill.ensures.once t) (sound_too tables before.seen.held old (from.stays.sources.sound t s)) in
+    let some = fewer_err c.fill.result c.in-Err.why (wanted old tables) (wanted new tables) c.in-Err.is once.1 in
+    let left = wanted_left old.floor tables old.walks some in
+    let one = from.spent t s in
+    omega (arith, one, once.0.reads, left)

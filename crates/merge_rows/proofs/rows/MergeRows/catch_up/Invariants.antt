@@ -18,6 +18,7 @@ invariant-loop-why g l =
       memory : IsCaughtUp l.fn.self.floor (first_of l.self.memory) l.self.memory;
       moves : OnlyReads before after;
       left : blocks_left tables l.self.walks ≤ blocks_left tables l.fn.self.walks;
+      spent : tells → IsSoundMerge l.fn.self tables before.seen.held → after.seen.reads + blocks_left tables l.self.walks ≤ before.seen.reads + blocks_left tables l.fn.self.walks;
       counted : tells → after.seen.reads + next_blocks l.fn.self.walks ≡ before.seen.reads + next_blocks l.self.walks;
       bounded : tells → IsSoundMerge l.fn.self tables before.seen.held → (wanted l.self tables ≤ wanted l.fn.self tables) × ReadMoves (wanted l.fn.self tables - wanted l.self tables) before after;
     }

@@ -1,7 +1,7 @@
 use Rattle.std.specs.Prelude.{IfSome}
 use Rattle.std.specs.List.{AllByRecursion}
 use Rattle.merge_rows.specs.Choosing.{IsHeadFrom}
-use Rattle.std.proofs.Common.{map, ◌≡◌, ◌∙◌, ◌≤◌, List, sym, ap, subst}
+use Rattle.std.proofs.Common.{map, ◌≡◌, ◌∙◌, ◌+◌, ◌≤◌, List, sym, ap, subst}
 use Rattle.entry_model.specs.Entries.{Entry}
 use Rattle.merge_rows.specs.Rows.{KeyFloor}
 use Rattle.merge_rows.specs.Merges.{TableWalk, left_above, merged_left}
@@ -80,3 +80,9 @@ pub returns-clause-left : goal.returns-clause-left
 returns-clause-left g c =
     let tables = c.args.tables.now.tables in
     subst (λ (walks : List TableWalk). blocks_left tables walks ≤ blocks_left tables c.args.self.now.walks) (sym c.choose.ensures.walks) c.in_ok-catch_up.ensures.left
+
+pub returns-clause-spent : goal.returns-clause-spent
+returns-clause-spent g c t s =
+    let tables = c.args.tables.now.tables in
+    subst (λ (walks : List TableWalk). (g.D.Disk.world c.catch_up.new.disk).seen.reads + blocks_left tables walks ≤ (g.D.Disk.world c.args.disk.now).seen.reads + blocks_left tables c.args.self.now.walks)
+    (sym c.choose.ensures.walks) (c.in_ok-catch_up.ensures.spent t s)

@@ -1,10 +1,11 @@
 use Rattle.std.proofs.Common.{rules, ◌≡◌, ◌∙◌, ◌≤◌, ◌+◌, refl, sym, ap, subst, arith}
 use Rattle.std.specs.Prelude.{Some}
+use Rattle.merge_rows.specs.Reads.{blocks_left}
 use Rattle.merge_rows.specs.Steps.{AreWalksIn, numbers}
 use Rattle.store_core.proofs.ScanCauses.{no_damage, not_ended, said_of, told_as, told_block, told_scan, told_step, told_walk}
 use Rattle.store_core.proofs.ScanSteps.{shows_bounded, shows_ended, shows_on, shows_still}
 use Rattle.store_core.specs.Faults.{of_table_fault}
-use Rattle.store_core.specs.Scans.{IsScanShown, IsWalkShown, ScanWalk, StillComes, left_behind, opened_tables, step_bound}
+use Rattle.store_core.specs.Scans.{IsScanShown, IsWalkShown, ScanWalk, StillComes, blocks_to_come, left_behind, opened_tables, step_bound}
 use Rattle.store_core.proofs.scanning.Scan.advance.Goals as goal
 
 pub returns-then-has_ended-clause-pairs : goal.returns-then-has_ended-clause-pairs
@@ -12,6 +13,11 @@ returns-then-has_ended-clause-pairs g c m so shows =
     let image = (g.D.Disk.world c.args.disk.now).seen.held in
     let inside = subst (λ (w : ScanWalk). StillComes g.F.RangeFilter.spelling w m image) (sym c.self.view_is) shows in
     shows_ended g.D.Disk.tells so g.F.RangeFilter.spelling image _ m inside _ refl (sym c.has_ended.ensures ∙ c.if-has_ended.true)
+
+pub returns-then-has_ended-clause-spent : goal.returns-then-has_ended-clause-spent
+returns-then-has_ended-clause-spent g c m so shows =
+    let same = ap blocks_to_come c.self.view_is in
+    omega (arith, same)
 
 pub invariant_of-self-in_err-found : goal.invariant_of-self-in_err-found
 invariant_of-self-in_err-found g c =
@@ -54,6 +60,14 @@ returns-in_err-found-clause-bounded g c m so shows =
     subst (λ (w : ScanWalk). new.seen.reads ≤ old.seen.reads + step_bound w old.seen.held) c.self.view_is
     (shows_bounded g.D.Disk.tells so g.F.RangeFilter.spelling old.seen.held _ m inside old.seen.reads new.seen.reads (sym c.has_ended.ensures ∙ c.if-has_ended.false) (c.next_pair.ensures.bounded so inside.sound))
 
+pub returns-in_err-found-clause-tried : goal.returns-in_err-found-clause-tried
+returns-in_err-found-clause-tried g c m so shows =
+    let old = g.D.Disk.world c.args.disk.now in
+    let new = g.D.Disk.world c.next_pair.new.disk in
+    let inside = subst (λ (w : ScanWalk). StillComes g.F.RangeFilter.spelling w m old.seen.held) (sym c.self.view_is) shows in
+    let here = subst (λ (w : ScanWalk). new.seen.reads ≤ old.seen.reads + blocks_to_come w) c.self.view_is (c.in_err-found.ensures.tried so inside.sound) in
+    search rules
+
 pub returns-in_err-found-clause-only_if_read : goal.returns-in_err-found-clause-only_if_read
 returns-in_err-found-clause-only_if_read g c =
     let some : 1 ≤ opened_tables c.args.self.now = omega (arith, ap opened_tables c.self.view_is, c.in_err-found.ensures.only_if_read) in
@@ -88,6 +102,14 @@ returns-clause-bounded g c m so shows =
     let inside = subst (λ (w : ScanWalk). StillComes g.F.RangeFilter.spelling w m old.seen.held) (sym c.self.view_is) shows in
     subst (λ (w : ScanWalk). new.seen.reads ≤ old.seen.reads + step_bound w old.seen.held) c.self.view_is
     (shows_bounded g.D.Disk.tells so g.F.RangeFilter.spelling old.seen.held _ m inside old.seen.reads new.seen.reads (sym c.has_ended.ensures ∙ c.if-has_ended.false) (c.next_pair.ensures.bounded so inside.sound))
+
+pub returns-clause-spent : goal.returns-clause-spent
+returns-clause-spent g c m so shows =
+    let old = g.D.Disk.world c.args.disk.now in
+    let new = g.D.Disk.world c.next_pair.new.disk in
+    let inside = subst (λ (w : ScanWalk). StillComes g.F.RangeFilter.spelling w m old.seen.held) (sym c.self.view_is) shows in
+    subst (λ (w : ScanWalk). new.seen.reads + blocks_left c.self.inside.tables.now.tables c.next_pair.new.rows.walks ≤ old.seen.reads + blocks_to_come w) c.self.view_is
+    (c.in_ok-found.ensures.spent so inside.sound)
 
 pub returns-clause-said : goal.returns-clause-said
 returns-clause-said g c = said_of c.in_ok-found.found c.next_pair.new.rows.now c.in_ok-found.ensures.some

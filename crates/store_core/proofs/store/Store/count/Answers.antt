@@ -35,6 +35,9 @@ returns-in_err-scan-clause-only_if_read g c s so tied =
     let here = scan_met c.args.self.now.stopped (limit_of (Count c.args.low.now c.args.high.now)) (seek_bound s c.args.low.now c.args.high.now) c.in_err-scan.field-0.0 c.in_err-scan.ensures.refused in
     search rules
 
+pub returns-in_err-scan-clause-whole : goal.returns-in_err-scan-clause-whole
+returns-in_err-scan-clause-whole g c s so tied = omega arith
+
 pub returns-in_err-scan-clause-refused : goal.returns-in_err-scan-clause-refused
 returns-in_err-scan-clause-refused g c =
     let here = scan_count c.args.self.now.stopped (limit_of (Count c.args.low.now c.args.high.now)) (g.D.Disk.world c.args.disk.now) c.in_err-scan.field-0.0 c.in_err-scan.ensures.refused in
@@ -57,12 +60,16 @@ returns-then-is_crossed-clause-crossed g c crossed = reads_none 0 (g.D.Disk.worl
 pub returns-then-is_crossed-clause-limited : goal.returns-then-is_crossed-clause-limited
 returns-then-is_crossed-clause-limited g c broken = reads_none 0 (g.D.Disk.world c.args.disk.now)
 
+pub returns-then-is_crossed-clause-whole : goal.returns-then-is_crossed-clause-whole
+returns-then-is_crossed-clause-whole g c s so tied = omega arith
+
 -- ---- pairs one by one
 
 pub loop-scan-init : goal.loop-scan-init
 loop-scan-init g c = record {
   shows = λ m so shows. shows;
   within = λ m so shows. omega arith;
+  spent = λ m so shows. omega arith;
   left = c.in_ok-scan.ensures.made.1;
   few = omega arith;
   tables = refl;
@@ -101,6 +108,15 @@ returns-in_err-advance-clause-only_if_read g c s so tied =
     let some : 1 ≤ opened_tables c.in_ok-scan.scan = omega (arith, c.loop-scan.invariant.sources, c.in_err-advance.ensures.only_if_read.0) in
     let here = met_any (seek_bound s c.args.low.now c.args.high.now) c.in_err-advance.field-0.0 (c.in_ok-scan.ensures.only_if_read s before.seen.held seen some) in
     search rules
+
+pub returns-in_err-advance-clause-whole : goal.returns-in_err-advance-clause-whole
+returns-in_err-advance-clause-whole g c s so tied =
+    let before = g.D.Disk.world c.args.disk.now in
+    let seen = seen_as g.F.RangeFilter.spelling (filter_bytes_of g.F.RangeFilter.spelling g.F.RangeFilter.built_cutoff) c.args.self.now s before (g.met.D.Disk.current c.args.disk.now so) tied in
+    let m = slice (state_map s) c.args.low.now (Some c.args.high.now) 18446744073709551615 in
+    let first = c.in_ok-scan.ensures.shows s before.seen.held seen in
+    let here = subst (λ (f : Image). StillComes g.F.RangeFilter.spelling c.loop-scan.scan (drop c.loop-scan.count m) f) (sym c.loop-scan.invariant.moves.1.held) (c.loop-scan.invariant.shows m so first) in
+    omega (arith, c.in_ok-scan.ensures.blocks, c.loop-scan.invariant.spent m so first, c.in_err-advance.ensures.tried (drop c.loop-scan.count m) so here)
 
 pub returns-in_err-advance-clause-refused : goal.returns-in_err-advance-clause-refused
 returns-in_err-advance-clause-refused g c =
@@ -149,6 +165,9 @@ loop-scan-preserved g c =
           let here = subst (λ (f : Image). StillComes spelling c.loop-scan.scan (drop c.loop-scan.count m) f) (sym held) (c.loop-scan.invariant.shows m so shows) in
           let on = c.in_ok-advance.ensures.pairs (drop c.loop-scan.count m) so here in
           omega (arith, some_behind c.loop-scan.count m (ap is_some (sym on.0) ∙ sym c.in_ok-advance.ensures.said ∙ c.if-branch.true));
+      spent = λ m so shows.
+          let here = subst (λ (f : Image). StillComes spelling c.loop-scan.scan (drop c.loop-scan.count m) f) (sym held) (c.loop-scan.invariant.shows m so shows) in
+          omega (arith, c.loop-scan.invariant.spent m so shows, c.in_ok-advance.ensures.spent (drop c.loop-scan.count m) so here);
       left =
           c.in_ok-advance.ensures.counts ∙ ap (λ (b : Bool). left_behind b c.loop-scan.scan.left) c.if-branch.true ∙ ap (left_behind true) c.loop-scan.invariant.left
           ∙ ap (λ (n : ℕ). Some n) fewer;
@@ -177,6 +196,15 @@ pub returns-clause-tied : goal.returns-clause-tied
 returns-clause-tied g c s tied =
     let moves = reads_on (g.D.Disk.world c.args.disk.now) (g.D.Disk.world c.loop-scan.disk) (g.D.Disk.world c.advance.new.disk) c.loop-scan.invariant.moves c.advance.ensures.moves in
     tied_read g.F.RangeFilter.spelling (filter_bytes_of g.F.RangeFilter.spelling g.F.RangeFilter.built_cutoff) c.args.self.now s _ _ moves.0 moves.1 tied
+
+pub returns-clause-whole : goal.returns-clause-whole
+returns-clause-whole g c s so tied =
+    let before = g.D.Disk.world c.args.disk.now in
+    let seen = seen_as g.F.RangeFilter.spelling (filter_bytes_of g.F.RangeFilter.spelling g.F.RangeFilter.built_cutoff) c.args.self.now s before (g.met.D.Disk.current c.args.disk.now so) tied in
+    let m = slice (state_map s) c.args.low.now (Some c.args.high.now) 18446744073709551615 in
+    let first = c.in_ok-scan.ensures.shows s before.seen.held seen in
+    let here = subst (λ (f : Image). StillComes g.F.RangeFilter.spelling c.loop-scan.scan (drop c.loop-scan.count m) f) (sym c.loop-scan.invariant.moves.1.held) (c.loop-scan.invariant.shows m so first) in
+    omega (arith, c.in_ok-scan.ensures.blocks, c.loop-scan.invariant.spent m so first, c.in_ok-advance.ensures.spent (drop c.loop-scan.count m) so here)
 
 pub returns-clause-no_call : goal.returns-clause-no_call
 returns-clause-no_call g c stopped = absurd (false≢true (sym c.in_ok-scan.ensures.refused.0 ∙ stopped))

@@ -1,8 +1,8 @@
-use Rattle.std.proofs.Common.{◌≡◌, ◌≤◌, ◌-◌, length, drop}
+use Rattle.std.proofs.Common.{◌≡◌, ◌≤◌, ◌+◌, ◌-◌, length, drop}
 use Rattle.std.specs.Prelude.{IsTrue, Some}
 use Rattle.map_model.specs.SortedMap.{Map}
 use Rattle.merge_rows.specs.Reads.{OnlyReads}
-use Rattle.store_core.specs.Scans.{StillComes, opened_tables}
+use Rattle.store_core.specs.Scans.{StillComes, blocks_to_come, opened_tables}
 use Rattle.store_core.proofs.store.Store.count.Given as goal
 
 -- so many of the pairs were given, and the others are still to come
@@ -13,6 +13,7 @@ invariant-loop-scan g l =
     record {
       shows : (m : Map) → IsTrue g.D.Disk.tells → StillComes g.F.RangeFilter.spelling l.initial.scan m before.seen.held → StillComes g.F.RangeFilter.spelling l.scan (drop l.count m) before.seen.held;
       within : (m : Map) → IsTrue g.D.Disk.tells → StillComes g.F.RangeFilter.spelling l.initial.scan m before.seen.held → l.count ≤ length m;
+      spent : (m : Map) → IsTrue g.D.Disk.tells → StillComes g.F.RangeFilter.spelling l.initial.scan m before.seen.held → after.seen.reads + blocks_to_come l.scan ≤ before.seen.reads + blocks_to_come l.initial.scan;
       left : l.scan.left ≡ Some (18446744073709551615 - l.count);
       few : l.count ≤ 18446744073709551615;
       tables : l.scan.tables ≡ l.initial.scan.tables;

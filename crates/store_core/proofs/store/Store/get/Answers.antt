@@ -10,6 +10,7 @@ returns-in_err-place g c = (
   record {
     after = tt;
     answer = λ s tells tied. search rules;
+    looked = λ tells. search rules;
     gets = record {
       undamaged = λ s tells tied. let here = c.in_err-place.ensures.gets.undamaged s tells tied in search rules;
       shown = λ tells. let here = c.in_err-place.ensures.gets.shown tells in search rules;
@@ -32,6 +33,9 @@ returns g c = (
   record {
     after = tt;
     answer = λ s tells tied. c.value_at.ensures ∙ ap live (c.in_ok-place.ensures.answer s tells tied) ∙ sym (view_says (filter_bytes_of g.F.RangeFilter.spelling g.F.RangeFilter.built_cutoff) s c.args.key.now tied.sound);
+    looked = λ tells.
+        let says = c.in_ok-place.ensures.looked tells in
+        record { value_is = c.value_at.ensures ∙ ap live says.said_is; sound = says.sound };
     gets = record {
       undamaged = λ s tells tied. tt;
       shown = λ tells. tt;

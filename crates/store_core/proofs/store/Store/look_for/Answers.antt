@@ -1,10 +1,15 @@
 use Rattle.std.proofs.Common.{rules, List, length, refl, sym, ◌∙◌, ap, subst}
 use Rattle.store_core.specs.Caching.{AreNumbered, CacheAgrees, Cached, LeavesKept}
+use Rattle.store_core.specs.Looking.{AreReadSound, looked_tables}
 use Rattle.store_core.specs.StoreValue.{StoreValue}
 use Rattle.store_core.specs.Represents.{Represents}
 use Rattle.table_file.specs.Opened.{Opened}
 use Rattle.table_model.specs.Tables.{filter_bytes_of}
-use Rattle.store_core.proofs.Asked.{asked_still, found_view, gets_found, gets_refused, held_of, no_memory, tied_asked, true_of, unsaid, whole_asked, written_whole}
+use Rattle.std.specs.Prelude.{is_some}
+use Rattle.entry_model.specs.Newest.{lookup}
+use Rattle.store_core.proofs.Lookeds.{memory_looked, place_looked, tables_looked}
+use Rattle.store_core.proofs.ScanCauses.{some_mapped}
+use Rattle.store_core.proofs.Asked.{asked_still, found_view, gets_found, gets_refused, held_of, no_memory, tied_asked, true_of, unsaid, whole_asked}
 use Rattle.store_core.proofs.store.Store.look_for.Goals as goal
 
 pub invariant_of-self : goal.invariant_of-self
@@ -140,3 +145,24 @@ returns-clause-limited g c broken = absurd (broken c.in_ok-check_key.ensures)
 pub returns-clause-in_memory : goal.returns-clause-in_memory
 returns-clause-in_memory g c there = absurd (there
     (unsaid _ c.get.result c.is_some.result c.self.inside.memory.entries c.args.self.now c.args.key.now c.get.ensures c.is_some.ensures c.if-is_some.false (ap (λ (k : StoreValue). k.memory.entries) c.self.view_is)))
+
+-- ---- what is said by the blocks themselves
+
+pub returns-then-is_some-clause-looked : goal.returns-then-is_some-clause-looked
+returns-then-is_some-clause-looked g c tells =
+    let said = c.get.ensures ∙ ap (λ (k : StoreValue). lookup k.memory.entries c.args.key.now) c.self.view_is in
+    memory_looked c.args.self.now c.args.key.now (g.D.Disk.world c.args.disk.now).seen.held _ refl
+    (ap is_some (sym said) ∙ some_mapped _ c.get.result ∙ sym c.is_some.ensures ∙ c.if-is_some.true)
+
+pub returns-clause-looked : goal.returns-clause-looked
+returns-clause-looked g c tells =
+    let key = c.args.key.now in
+    let image = (g.D.Disk.world c.args.disk.now).seen.held in
+    let opened = c.as_slice-tables.result.now in
+    let tables = c.as_slice-tables.ensures ∙ ap (λ (k : StoreValue). k.tables) c.self.view_is in
+    let blocks = ap (λ (k : StoreValue). k.blocks) c.self.view_is in
+    let none = unsaid _ c.get.result c.is_some.result c.self.inside.memory.entries c.args.self.now key c.get.ensures c.is_some.ensures c.if-is_some.false (ap (λ (k : StoreValue). k.memory.entries) c.self.view_is) in
+    tables_looked c.args.self.now key image _ none
+    (place_looked c.place_of.result _ key c.in_ok-found.found c.look_and_keep.new.buffer.items c.look_and_keep.new.blocks.kept c.place_of.ensures.said refl refl _
+    (c.in_ok-found.ensures.looked tells ∙ ap (λ (b : Cached). looked_tables b opened key image) blocks ∙ ap (λ (ts : List Opened). looked_tables c.args.self.now.blocks ts key image) tables))
+    (subst (λ (ts : List Opened). AreReadSound c.args.self.now.blocks ts key image) tables (subst (λ (b : Cached). AreReadSound b opened key image) blocks (c.in_ok-found.ensures.sound tells)))

@@ -3,7 +3,7 @@ use Rattle.std.specs.Prelude.{IfErr, Result, IsTrue}
 use Rattle.disk_trait.proofs.Calls.{moves_then}
 use Rattle.disk_trait.specs.World.{WriteMoves}
 use Rattle.std.proofs.lemmas.Bool.{cases_lt}
-use Rattle.entry_model.specs.Entries.{Entry, entry_of, need}
+use Rattle.entry_model.specs.Entries.{Entry, IsLogged, entry_of, need}
 use Rattle.gate_log.specs.Values.{value_of}
 use Rattle.log_model.specs.Area.{start_of}
 use Rattle.state_model.specs.Changes.{written}
@@ -20,6 +20,7 @@ use Rattle.store_core.specs.declared.error.StoreError.TheVariants as error
 use Rattle.store_core.proofs.FlushAnswers.{passed_on, wanted_room}
 use Rattle.store_core.proofs.Refusals.{failure_due, fits_allowed, flush_allowed, flush_due, wanted_entry}
 use Rattle.store_core.proofs.Stays.{flush_stays, room_taken, stopped_stays}
+use Rattle.store_core.proofs.Ties.{short_of_logged}
 use Rattle.store_core.proofs.Writing.{flush_failed, flush_then, need_fits, need_over, never, tied_with, wrote_as, wrote_logged}
 use Rattle.store_core.proofs.store.Store.write.Goals as goal
 
@@ -49,7 +50,7 @@ returns-then-fits-clause-wrote g c s tells tied =
     let inside = subst (λ (k : StoreValue). Represents spelling bytes k s old) (sym c.self.view_is) tied in
     let within = subst (λ (n : ℕ). c.self.inside.log.filled + n ≤ 262144) (c.record_need.ensures ∙ sym (ap need same)) (c.fits.ensures.0 c.if-fits.true) in
     wrote_as spelling bytes s e (entry_of c.args.key.now (value_of c.args.value)) c.append.result c.append.new.self old new same
-    (wrote_logged spelling bytes s e c.append.result c.append.new.self old new (need_fits c.self.inside.log.filled (need e) s.log inside.log within) c.append.ensures.failure
+    (wrote_logged spelling bytes s e c.append.result c.append.new.self old new (short_of_logged e (subst IsLogged (sym same) c.requires.sound)) (need_fits c.self.inside.log.filled (need e) s.log inside.log within) c.append.ensures.failure
     (c.append.ensures.turns s tells (tied_with spelling bytes _ s old c.reserve_for.new.self c.reserve_for.ensures.kept inside)))
 
 pub returns-in_err-flush_memory-clause-wrote : goal.returns-in_err-flush_memory-clause-wrote
@@ -63,7 +64,7 @@ returns-in_err-flush_memory-clause-wrote g c s tells tied =
     let wide = subst (λ (n : ℕ). 262144 < c.self.inside.log.filled + n) c.record_need.ensures (not_within (c.self.inside.log.filled + c.record_need.result) c.fits.result c.fits.ensures.1 c.if-fits.false) in
     subst (λ (r : Result (Unit {0}) StoreError). WroteEntry spelling bytes s (written bytes s x) r c.flush_memory.new.self old new)
     (passed_on c.from_residual-in_err-flush_memory.result c.in_err-flush_memory.field-0.0 c.from_residual-in_err-flush_memory.ensures.1)
-    (flush_failed spelling bytes s x (need_over c.self.inside.log.filled (need x) s.log inside.log inside.sound.log_fits wide) c.in_err-flush_memory.field-0.0 c.flush_memory.new.self old new
+    (flush_failed spelling bytes s x (short_of_logged x c.requires.sound) (need_over c.self.inside.log.filled (need x) s.log inside.log inside.sound.log_fits wide) c.in_err-flush_memory.field-0.0 c.flush_memory.new.self old new
     (c.in_err-flush_memory.ensures.wrote s tells (tied_with spelling bytes _ s old c.reserve_for.new.self c.reserve_for.ensures.kept inside)))
 
 pub returns-clause-wrote : goal.returns-clause-wrote
@@ -79,7 +80,7 @@ returns-clause-wrote g c s tells tied =
     let wide = subst (λ (n : ℕ). 262144 < c.self.inside.log.filled + n) (c.record_need.ensures ∙ sym (ap need same))
     (not_within (c.self.inside.log.filled + c.record_need.result) c.fits.result c.fits.ensures.1 c.if-fits.false) in
     wrote_as spelling bytes s e (entry_of c.args.key.now (value_of c.args.value)) c.append-2.result c.append-2.new.self old new same
-    (flush_then spelling bytes s e (need_over c.self.inside.log.filled (need e) s.log inside.log inside.sound.log_fits wide) c.in_ok-flush_memory.field-0 c.append-2.result
+    (flush_then spelling bytes s e (short_of_logged e (subst IsLogged (sym same) c.requires.sound)) (need_over c.self.inside.log.filled (need e) s.log inside.log inside.sound.log_fits wide) c.in_ok-flush_memory.field-0 c.append-2.result
     c.flush_memory.new.self c.append-2.new.self old flushed_at new c.append-2.ensures.failure c.append-2.ensures.stopped
     (c.in_ok-flush_memory.ensures.wrote s tells (tied_with spelling bytes _ s old c.reserve_for.new.self c.reserve_for.ensures.kept inside))
     (λ to tied_then. c.append-2.ensures.turns to tells tied_then))
@@ -136,7 +137,7 @@ returns-in_err-flush_memory-clause-due g c =
     let why = c.in_err-flush_memory.field-0.0 in
     let wide = subst (λ (n : ℕ). 262144 < c.self.inside.log.filled + n) c.record_need.ensures (not_within (c.self.inside.log.filled + c.record_need.result) c.fits.result c.fits.ensures.1 c.if-fits.false) in
     subst (λ (r : Result (Unit {0}) StoreError). IfErr r (IsWriteDue bytes c.args.self.now x old new)) (passed_on c.from_residual-in_err-flush_memory.result why c.from_residual-in_err-flush_memory.ensures.1)
-    (flush_due bytes _ c.args.self.now c.reserve_for.new.self x old new why c.self.view_is c.reserve_for.ensures.kept wide c.in_err-flush_memory.ensures.due)
+    (flush_due bytes _ c.args.self.now c.reserve_for.new.self x old new why (short_of_logged x c.requires.sound) c.self.view_is c.reserve_for.ensures.kept wide c.in_err-flush_memory.ensures.due)
 
 pub returns-clause-due : goal.returns-clause-due
 returns-clause-due g c =
@@ -152,11 +153,12 @@ returns-then-fits-clause-allowed g c =
     let x = entry_of c.args.key.now (value_of c.args.value) in
     let within = subst (λ (n : ℕ). c.self.inside.log.filled + n ≤ 262144) c.record_need.ensures (c.fits.ensures.0 c.if-fits.true) in
     let seen = subst (λ (k : StoreValue). k.log.filled + need x ≤ 262144) c.self.view_is within in
-    fits_allowed (filter_bytes_of g.F.RangeFilter.spelling g.F.RangeFilter.built_cutoff) c.append.result c.args.self.now x (λ wide. omega (arith, wide, seen))
+    fits_allowed (filter_bytes_of g.F.RangeFilter.spelling g.F.RangeFilter.built_cutoff) c.append.result c.args.self.now x (short_of_logged x c.requires.sound) (λ wide. omega (arith, wide, seen))
 
 pub returns-clause-allowed : goal.returns-clause-allowed
 returns-clause-allowed g c =
-    flush_allowed (filter_bytes_of g.F.RangeFilter.spelling g.F.RangeFilter.built_cutoff) c.append-2.result _ c.args.self.now c.reserve_for.new.self (entry_of c.args.key.now (value_of c.args.value)) c.self.view_is c.reserve_for.ensures.kept
+    flush_allowed (filter_bytes_of g.F.RangeFilter.spelling g.F.RangeFilter.built_cutoff) c.append-2.result _ c.args.self.now c.reserve_for.new.self (entry_of c.args.key.now (value_of c.args.value))
+    (short_of_logged (entry_of c.args.key.now (value_of c.args.value)) c.requires.sound) c.self.view_is c.reserve_for.ensures.kept
     c.in_ok-flush_memory.ensures.allowed
 
 -- ---- what is left as it was

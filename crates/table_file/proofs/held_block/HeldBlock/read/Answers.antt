@@ -13,7 +13,7 @@ use Rattle.table_file.proofs.held_block.HeldBlock.read.Goals as goal
 pub invariant_of-self : goal.invariant_of-self
 unfolding at_hand
 invariant_of-self g c =
-    let old = c.lengthen.new.bytes in
+    let old = c.lengthen.new.buffer in
     let items = take old.len (c.fetch.new.buf ++ drop (length c.fetch.new.buf) old.items) in
     let key = c.self.inside.key.items in
     let room = c.lengthen.ensures.room in
@@ -24,7 +24,7 @@ returns-in_err-size-clause-none g c = sym (none_at_hand _ _ _ refl)
 
 pub returns-in_err-size-clause-emptied : goal.returns-in_err-size-clause-emptied
 returns-in_err-size-clause-emptied g c =
-    let old = c.lengthen.new.bytes in
+    let old = c.lengthen.new.buffer in
     let none = nothing c.self.inside.key.items (take old.len (c.fetch.new.buf ++ drop (length c.fetch.new.buf) old.items)) in
     search rules
 
@@ -32,7 +32,7 @@ returns-in_err-size-clause-emptied g c =
 pub invariant_of-self-in_err-walk : goal.invariant_of-self-in_err-walk
 unfolding at_hand
 invariant_of-self-in_err-walk g c =
-    let old = c.lengthen.new.bytes in
+    let old = c.lengthen.new.buffer in
     let items = take old.len (c.fetch.new.buf ++ drop (length c.fetch.new.buf) old.items) in
     let room = c.lengthen.ensures.room in
     let key = c.self.inside.key in
@@ -47,7 +47,7 @@ returns-in_err-walk-clause-none g c = sym (none_at_hand _ _ _ refl)
 
 pub returns-in_err-walk-clause-emptied : goal.returns-in_err-walk-clause-emptied
 returns-in_err-walk-clause-emptied g c =
-    let old = c.lengthen.new.bytes in
+    let old = c.lengthen.new.buffer in
     let key = c.self.inside.key in
     let buffer = c.walk_read.new.buffer in
     let none = nothing (take key.len (buffer ++ drop (length buffer) key.items)) (take old.len (c.fetch.new.buf ++ drop (length c.fetch.new.buf) old.items)) in
@@ -57,7 +57,7 @@ returns-in_err-walk-clause-emptied g c =
 pub invariant_of-self-2 : goal.invariant_of-self-2
 unfolding at_hand
 invariant_of-self-2 g c =
-    let old = c.lengthen.new.bytes in
+    let old = c.lengthen.new.buffer in
     let items = take old.len (c.fetch.new.buf ++ drop (length c.fetch.new.buf) old.items) in
     let size = c.in_ok-size.size in
     let walk = c.in_ok-walk.walk in
@@ -88,7 +88,7 @@ returns-clause-none g c = sym (none_at_hand _ _ _ refl)
 
 pub returns-clause-entries : goal.returns-clause-entries
 returns-clause-entries g c tells =
-    let old = c.lengthen.new.bytes in
+    let old = c.lengthen.new.buffer in
     let items = take old.len (c.fetch.new.buf ++ drop (length c.fetch.new.buf) old.items) in
     let size = c.in_ok-size.size in
     let walk = c.in_ok-walk.walk in
@@ -111,7 +111,7 @@ returns-clause-entries g c tells =
 
 pub returns-clause-some : goal.returns-clause-some
 returns-clause-some g c none =
-    let old = c.lengthen.new.bytes in
+    let old = c.lengthen.new.buffer in
     let items = take old.len (c.fetch.new.buf ++ drop (length c.fetch.new.buf) old.items) in
     let key = c.self.inside.key in
     let buffer = c.walk_read.new.buffer in

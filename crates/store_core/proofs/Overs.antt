@@ -1,0 +1,117 @@
+-- The memory entries of a state, with an entry over them where there is one, as they are flushed.
+use Rattle.std.proofs.Common.{◌≡◌, ◌≢◌, inl, inr, ◌∙◌, ◌<◌, ◌≤◌, ◌+◌, ℕ, suc, Bool, true, false, cond, not, List, [], ◌∷◌, ◌++◌, length, refl, sym, ap, subst, arith}
+use Rattle.std.specs.Prelude.{IfSome, Option, Some, None, nat_lt, ◌||◌, ◌==◌}
+use Rattle.std.specs.Borrow.{Bor}
+use Rattle.std.specs.List.{AllByRecursion, list_any}
+use Rattle.block_model.specs.Block.{IsTable}
+use Rattle.entry_model.proofs.Newest.{newest_more}
+use Rattle.entry_model.specs.Entries.{Entry, IsEntry, put_entry}
+use Rattle.entry_model.specs.Newest.{KeysRise, newest_entries, with_entry}
+use Rattle.extent_model.proofs.Free.{gap_is_free}
+use Rattle.extent_model.proofs.Lists.{all_pairs, pairs_of}
+use Rattle.extent_model.specs.Extents.{AreApart}
+use Rattle.extent_model.specs.Gaps.{first_gap}
+use Rattle.filter_api.specs.declared.settings.Settings.{Settings}
+use Rattle.key_base.specs.Limits.{last_epoch}
+use Rattle.map_model.proofs.Maps.{by_order}
+use Rattle.map_model.specs.SortedMap.{Bytes, in_place}
+use Rattle.state_model.proofs.Places.{table_is_sound}
+use Rattle.state_model.proofs.Sayings.{newest_entries_rise}
+use Rattle.state_model.proofs.SoundChanges.{next_epoch}
+use Rattle.state_model.proofs.SoundLogs.{filled_none, logged_entries, newest_all, over_is_table}
+use Rattle.state_model.specs.Merges.{Plan, lasting, newest_of, on_level, outputs_for, planned}
+use Rattle.state_model.specs.Sound.{AreMade, IsJob, IsSound, MayRun, StandsBefore, plan_of_job}
+use Rattle.state_model.specs.State.{Job, State}
+use Rattle.state_model.specs.Taken.{extent_of, taken}
+use Rattle.state_model.specs.View.{memory}
+use Rattle.table_model.specs.Tables.{FilterBytes, Table, table_of, table_pages}
+use Rattle.store_core.specs.Flushing.{DiffersInLog, entries_with, over_of, state_with}
+use Rattle.store_core.specs.StoreValue.{IsConsistent, StoreValue}
+use Rattle.store_core.proofs.Flushes.{first_of_all, some_pages}
+use Rattle.store_core.proofs.Wholes.{memory_table}
+
+-- ---- what is flushed
+
+-- it differs from the state in its log alone
+pub differs : (s : State) (over : Option Entry) → DiffersInLog s (state_with s over)
+differs s None = refl
+differs s (Some e) = refl
+
+-- and its memory entries are those that are flushed
+pub memory_with : (s : State) (over : Option Entry) → memory (state_with s over) ≡ entries_with (memory s) over
+memory_with s None = refl
+memory_with s (Some e) = newest_more s.log e
+
+pub flushed_entries_are : (s : State) (over : Option Entry) (entries : List Entry) → entries ≡ memory s → entries_with entries over ≡ newest_entries (state_with s over).log
+flushed_entries_are s over entries are = ap (λ (es : List Entry). entries_with es over) are ∙ sym (memory_with s over)
+
+pub over_is_entry : (over : Option (Bor Bytes × Bor Bytes)) → IfSome over (λ pair. IsEntry (put_entry pair.0.now pair.1.now)) → IfSome (over_of over) IsEntry
+over_is_entry None is = tt
+over_is_entry (Some pair) is = is
+
+-- with an entry over them they are some
+pub with_some : (entries : List Entry) (e : Entry) → with_entry entries e ≢ []
+with_some [] e = λ none. cc
+with_some (x ∷ more) e = by_order (λ o. in_place o e x more (with_entry more e) ≢ []) e.key x.key (λ _ none. cc) (λ _ none. cc) (λ _ none. cc)
+
+some_length : (entries : List Entry) → entries ≢ [] → 1 ≤ length entries
+some_length [] some = absurd (some refl)
+some_length (e ∷ more) some = omega arith
+
+module _ (store : StoreValue) (whole : IsConsistent store) where
+  pub memory_rises : KeysRise store.memory.entries
+  memory_rises = subst KeysRise (sym whole.entries.memory_is) (newest_entries_rise whole.entries.entries)
+
+  pub memory_each : AllByRecursion IsEntry store.memory.entries
+  memory_each = subst (AllByRecursion IsEntry) (sym whole.entries.memory_is) (newest_all IsEntry whole.entries.entries (logged_entries whole.entries.entries whole.entries.sound))
+
+  -- they are a table
+  pub flushed_table : (over : Option Entry) → IfSome over IsEntry → entries_with store.memory.entries over ≢ [] → IsTable (entries_with store.memory.entries over)
+  flushed_table None is some = memory_table store whole some
+  flushed_table (Some e) is some =
+      let of = whole.entries in
+      let same : newest_entries (of.entries ++ e ∷ []) ≡ with_entry store.memory.entries e = newest_more of.entries e ∙ ap (λ (es : List Entry). with_entry es e) (sym of.memory_is) in
+      subst IsTable same (over_is_table of.entries e of.sound is of.fits (subst (λ (es : List Entry). 1 ≤ length es) (sym same) (some_length (with_entry store.memory.entries e) some)))
+
+-- ---- a table more, in front of all
+
+level_0 : (n : ℕ) → nat_lt n 0 ≡ false
+level_0 n = grind arith
+
+planned_again : (tables : List Table) (t : Table) (plan : Plan) → t.level ≡ 0 → planned tables plan ≡ planned (t ∷ tables) plan
+planned_again tables t plan zero_level =
+    let shallow : nat_lt plan.output t.level ≡ false = ap (nat_lt plan.output) zero_level ∙ level_0 plan.output in
+    ap (λ (b : Bool). outputs_for plan.inputs (lasting (not (b || list_any (λ (u : Table). nat_lt plan.output u.level) tables)) (newest_of plan.inputs))) (sym shallow)
+
+job_behind : (filter_bytes : FilterBytes) (settings : Settings) (tables : List Table) (t : Table) (job : Option Job) → t.level ≡ 0 → MayRun filter_bytes settings tables job → MayRun filter_bytes settings (t ∷ tables) job
+job_behind filter_bytes settings tables t None zero_level may = tt
+job_behind filter_bytes settings tables t (Some job) zero_level is = record {
+  flushes = suc is.flushes;
+  few = let first : (t.level == 0) ≡ true = grind arith in
+      subst (λ (b : Bool). suc is.flushes ≤ length (cond b (t ∷ on_level 0 tables) (on_level 0 tables))) (sym first) (omega (arith, is.few));
+  chosen = is.chosen;
+  to_read = is.to_read;
+  written = subst (λ (outputs : List (List Entry)). AreMade filter_bytes settings job.output outputs job.written) (planned_again tables t (plan_of_job job) zero_level) is.written;
+}
+
+-- A sound state with a table of these entries at the first gap that holds it is sound, whether they are those of its memory or not.
+pub placed_sound : (filter_bytes : FilterBytes) (s : State) (entries : List Entry) (page : ℕ) → IsSound filter_bytes s → IsTable entries → length s.tables < 1024 → s.epoch < last_epoch
+    → first_gap s.pages (taken s) (table_pages filter_bytes s.settings entries) ≡ Some page
+    → IsSound filter_bytes (record s { epoch = s.epoch + 1; log = []; tables = table_of filter_bytes s.settings 0 page entries ∷ s.tables })
+placed_sound filter_bytes s entries page sound table few left gap =
+    let t = table_of filter_bytes s.settings 0 page entries in
+    let free = gap_is_free s.pages (taken s) (table_pages filter_bytes s.settings entries) page (some_pages filter_bytes s.settings entries) sound.on_device gap in
+    record {
+      settings = sound.settings;
+      ratio = sound.ratio;
+      device = sound.device;
+      epoch = next_epoch s.epoch sound.epoch.1 (λ last. absurd (omega (arith, last, left)));
+      log = tt;
+      log_fits = omega (arith, filled_none);
+      few = omega (arith, few);
+      tables = (table_is_sound filter_bytes s.settings 0 page entries (omega arith) sound.settings sound.ratio table, sound.tables);
+      order = all_pairs StandsBefore (t ∷ s.tables) (first_of_all t s.tables refl, pairs_of StandsBefore s.tables sound.order);
+      on_device = (free.0, sound.on_device);
+      apart = all_pairs AreApart (extent_of t ∷ taken s) (free.1, pairs_of AreApart (taken s) sound.apart);
+      job = job_behind filter_bytes s.settings s.tables t s.job refl sound.job;
+    }
