@@ -10,7 +10,8 @@ use Rattle.manifest_model.specs.Version.{body_bytes}
 abbrev pub zeros : Image
 zeros place = 0
 
--- the block of a with b and of a tombstone of ab, without the zeros to the end of its page, its sum, and the row of an index
+-- the block of a with b and of a tombstone of ab in the first format, without the zeros to the end of its page, its sum, and
+-- the row of an index
 abbrev pub a_and_ab_bytes : Bytes
 a_and_ab_bytes = 26 ∷ 0 ∷ 0 ∷ 0 ∷ 2 ∷ 0 ∷ 0 ∷ 0 ∷ 1 ∷ 1 ∷ 0 ∷ 1 ∷ 0 ∷ 0 ∷ 0 ∷ 0x61 ∷ 0x62 ∷ 2 ∷ 2 ∷ 0 ∷ 0 ∷ 0 ∷ 0 ∷ 0 ∷ 0x61 ∷ 0x62 ∷ []
 
@@ -20,12 +21,12 @@ a_and_ab_sum = 0xC5E3CC62D056E6D2
 abbrev pub up_to : ℕ → Bytes → IndexRow
 up_to sum last = record { pages = 1; sum = sum; last = last }
 
--- that of c with d
+-- that of c with d, as blocks are written
 abbrev pub c_bytes : Bytes
-c_bytes = 17 ∷ 0 ∷ 0 ∷ 0 ∷ 1 ∷ 0 ∷ 0 ∷ 0 ∷ 1 ∷ 1 ∷ 0 ∷ 1 ∷ 0 ∷ 0 ∷ 0 ∷ 0x63 ∷ 0x64 ∷ []
+c_bytes = 21 ∷ 0 ∷ 0 ∷ 0 ∷ 1 ∷ 2 ∷ 0 ∷ 0 ∷ 10 ∷ 0 ∷ 1 ∷ 0 ∷ 0 ∷ 1 ∷ 0 ∷ 1 ∷ 0 ∷ 0 ∷ 0 ∷ 0x63 ∷ 0x64 ∷ []
 
 abbrev pub c_sum : ℕ
-c_sum = 7994152230317738321
+c_sum = 5012117060168271117
 
 -- the block of a and ab at the first page of tables, and its index at the next one
 abbrev pub index_bytes : Bytes

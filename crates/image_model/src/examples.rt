@@ -90,7 +90,8 @@ pub fn findings_of_a_table()
     ensures nor_with_damage { keys_by (row_of 2) (Some (Shape Index 790528 2)) [] with_a_table ≡ None }
 {}
 
-/// Two blocks whose pages are changed over: neither has its keys. A block after a damaged one may have lesser keys.
+/// Two blocks, the first of the first format and the second with shared prefixes: nothing is found. Where their pages are
+/// changed over, neither has its keys. A block after a damaged one may have lesser keys.
 #[tactic(auto)]
 pub fn findings_of_two_blocks()
     ensures in_order { block_findings 192 (AtLeast (codes "a")) (up_to a_and_ab_sum (codes "ab") ∷ up_to c_sum (codes "c") ∷ []) (overwritten (overwritten zeros 786432 a_and_ab_bytes) 790528 c_bytes) ≡ [] }

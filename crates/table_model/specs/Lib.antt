@@ -16,3 +16,4 @@ pub mod Images
 pub mod Damage
 pub mod Written
 pub mod Laws
+pub mod Examples
