@@ -14,6 +14,7 @@ ghost use Rattle.entry_model.specs.Entries.{Entry, IsEntry};
 ghost use Rattle.block_model.specs.Laws.{joined};
 ghost use Rattle.entry_model.specs.Newest.{lookup};
 ghost use Rattle.block_model.specs.BlockReading.{block_fault, block_in};
+ghost use Rattle.block_model.specs.Index.{row_pages};
 ghost use Rattle.block_model.specs.Pages.{page_bytes};
 ghost use Rattle.block_model.specs.Places.{byte_of_page};
 ghost use Rattle.table_file.specs.Faults.{HasReadCause, IsNoDamage, IsNoWant, IsOtherSum};
@@ -81,10 +82,11 @@ impl<F: RangeFilter> Table<F> {
         Table { row, index, filter }
     }
 
-    /// The row that it was made from. Its settings are in range.
+    /// The row that it was made from. Its settings are in range, and it has as many data pages as the blocks have.
     pub fn row(&self) -> &Row
         ensures row { result.now ≡ self.now.row }
         ensures range { IsRowInRange self.now.row }
+        ensures pages { row_pages self.now.index.rows ≡ self.now.row.data_pages }
     {
         &self.row
     }
