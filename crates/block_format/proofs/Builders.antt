@@ -9,7 +9,7 @@ use Rattle.std.proofs.lemmas.List.Sums.{common_prefix_len-le}
 use Rattle.byteorder.specs.Endian.{little_bytes}
 use Rattle.byte_fields.specs.Fields.{fields}
 use Rattle.map_model.specs.SortedMap.{Bytes}
-use Rattle.entry_model.specs.Entries.{Entry, IsEntry, body}
+use Rattle.entry_model.specs.Entries.{Entry, IsEntry}
 use Rattle.block_model.specs.Block.{block_bytes, header_bytes, list_bytes}
 use Rattle.block_model.specs.Bodies.{entries_bytes, entry_bytes, listed_places}
 use Rattle.block_model.specs.Formats.{Prefixed, begins_anew, entries_by, header_widths, key_by, places_length, wants_shared, width_by}

@@ -15,7 +15,7 @@ use crate::head::PREFIXED_HEAD_BYTES;
 use crate::old_block::HEADER_BYTES;
 use block_model::pages_for;
 use byte_fields::{put_u16, put_u32};
-use key_base::{MAX_BLOCK_ENTRIES, MAX_KEY_BYTES, PAGE_BYTES, RESTART_ENTRIES, shared};
+use key_base::{MAX_BLOCK_ENTRIES, PAGE_BYTES, RESTART_ENTRIES, shared};
 use std::alloc::{AllocError, Global};
 use std::marker::Model;
 
@@ -33,13 +33,13 @@ const FORMAT: u8 = 2;
 pub struct BlockBuilder {
     bytes: Vec<u8>,
     count: u8,
-    last: [u8; MAX_KEY_BYTES],
-    last_length: usize,
+    // the last key
+    last: Vec<u8>,
     places: [u16; MAX_LISTED],
 }
 
 impl Model for BlockBuilder {
-    ghost use Rattle.std.specs.Prelude.{◌≤◌, [], List, take};
+    ghost use Rattle.std.specs.Prelude.{◌≤◌, [], List, length};
     ghost use Rattle.key_base.specs.Limits.{max_key_bytes};
     ghost use Rattle.entry_model.specs.Entries.{Entry};
     ghost use Rattle.block_model.specs.Formats.{entries_by, Prefixed};
@@ -49,7 +49,7 @@ impl Model for BlockBuilder {
 
     ghost view = { λ b. entries_by Prefixed b.count [] b.bytes.items };
 
-    ghost invariant = { λ b. (b.last_length ≤ max_key_bytes) × SpellsEntries b.count b.bytes.items (take b.last_length b.last) b.places };
+    ghost invariant = { λ b. (length b.last.items ≤ max_key_bytes) × SpellsEntries b.count b.bytes.items b.last.items b.places };
 }
 
 impl BlockBuilder {
@@ -60,8 +60,7 @@ impl BlockBuilder {
         BlockBuilder {
             bytes: Vec::new(alloc),
             count: 0,
-            last: [0; MAX_KEY_BYTES],
-            last_length: 0,
+            last: Vec::new(alloc),
             places: [0; MAX_LISTED],
         }
     }
@@ -90,15 +89,15 @@ impl BlockBuilder {
         ensures unchanged { OnErr result (self.new ≡ self.old) }
     {
         let at = self.bytes.len();
-        let shared = wants_shared(self.count, &self.last[..self.last_length], key);
+        let shared = wants_shared(self.count, self.last.as_slice(), key);
         let width = body_length(shared, key, value);
         if !fits(self.count, at, width) {
             return Ok(false);
         }
+        self.last.reserve(key.len())?;
         push_entry(shared, key, value, &mut self.bytes)?;
         note_place(self.count, at, &mut self.places);
         keep_key(key, &mut self.last);
-        self.last_length = key.len();
         self.count += 1;
         Ok(true)
     }
@@ -109,7 +108,7 @@ impl BlockBuilder {
     {
         self.bytes.clear();
         self.count = 0;
-        self.last_length = 0;
+        self.last.clear();
     }
 
     /// Appends the block in whole pages, its list before its entries, and begins the next one. Without memory all stays as it was.
@@ -199,13 +198,13 @@ fn note_place(i: u8, at: usize, places: &mut [u16])
     }
 }
 
-// Keeps a key at the front of a buffer.
-fn keep_key(key: &[u8], last: &mut [u8])
-    requires { length key.now ≤ length last.old }
-    ensures kept { take (length key.now) last.new ≡ key.now }
-    ensures room { length last.new ≡ length last.old }
+// Keeps a key in place of the one before, where there is room.
+fn keep_key(key: &[u8], last: &mut Vec<u8>)
+    requires room { length key.now ≤ vec_capacity last.old }
+    ensures kept { last.new.items ≡ key.now }
 {
-    last[..key.len()].copy_from_slice(key);
+    last.clear();
+    append(key, last);
 }
 
 fn push_entry(
