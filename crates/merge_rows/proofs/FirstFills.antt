@@ -7,11 +7,12 @@ use Rattle.std.specs.Prelude.{Contains, Result, Ok, Err, Option, Some, None, ◌
 use Rattle.disk_trait.specs.Image.{Image}
 use Rattle.entry_model.specs.Entries.{Entry}
 use Rattle.merge_rows.specs.Merges.{TableWalk, blocks_in, left_above, numbered, row_count, walk_left}
-use Rattle.merge_rows.specs.Reads.{IsFewer, IsRead, blocks_left, blocks_left_in, is_used_up, next_blocks, next_block_of, ones, wanted_by, wanted_block_of}
+use Rattle.merge_rows.specs.Reads.{HasReadAll, HaveReadAll, IsFewer, IsRead, PassSound, PassesSound, blocks_left, blocks_left_in, is_used_up, next_blocks, next_block_of, next_numbers, ones, wanted_by, wanted_block_of}
 use Rattle.merge_rows.specs.Rows.{KeyFloor, clears}
 use Rattle.merge_rows.specs.Steps.{AreCaughtUp, AreHeadsClear, AreSoundWalks, AreWalksIn, HasRoomFor, IsCaughtUp, IsHeadClear, IsSoundWalk, number_of_walk, numbers, stand_of_walk, stands}
 use Rattle.table_file.specs.Opened.{Opened}
 use Rattle.table_file.specs.Walks.{is_due}
+use Rattle.merge_rows.proofs.SoundPasses.{pass_same, pass_set, pass_still, pass_then}
 
 abbrev pub IsSoundHere : KeyFloor → List Opened → Image → TableWalk → Type 0
 IsSoundHere floor tables image w = IsSoundWalk floor w.walk (blocks_in (numbered tables w.number) image)
@@ -26,6 +27,8 @@ pub record Passed (tells : Type 0) (floor : KeyFloor) (tables : List Opened) (im
   pub sound : tells → IsSoundHere floor tables image old → IsSoundHere floor tables image new
   pub block : tells → new.walk.block ≡ old.walk.block
   pub left : blocks_left_in tables new ≡ blocks_left_in tables old
+  pub none : wanted_block_of floor tables new ≡ 0
+  pub whole : HasReadAll tables new
   pub fewer : tells → IsSoundHere floor tables image old → (wanted_block_of floor tables new ≡ 0) × (wanted_block_of floor tables old ≡ 0)
 
 -- the first so many wanted none, and the others stand where they stood
@@ -105,6 +108,8 @@ passed_above tells floor tables image w above =
       sound = λ t s. s;
       block = λ t. refl;
       left = refl;
+      none = none;
+      whole = λ ends. absurd (false≢true (sym above ∙ ap (is_used_up floor) ends));
       fewer = λ t s. (none, none);
     }
 
@@ -198,6 +203,32 @@ module _ (tells : Type 0) (floor : KeyFloor) (tables : List Opened) (image : Ima
       let none = (went.0.fewer t sound.0).1 in
       omega (arith, sum, rest, none)
 
+  pub all_none : (i : ℕ) (old new : List TableWalk) → length old ≤ i → Gone i old new → wanted_by floor tables new ≡ 0
+  all_none i [] [] le went = refl
+  all_none zero [] (x ∷ new) le went = let none : x ∷ new ≡ [] = went in absurd cc
+  all_none (suc i) [] (x ∷ new) le went = absurd went
+  all_none zero (w ∷ old) new le went = absurd (omega (arith, le))
+  all_none (suc i) (w ∷ old) [] le went = absurd went
+  all_none (suc i) (w ∷ old) (x ∷ new) le went =
+      let sum = sum_by-cons (wanted_block_of floor tables) x new in
+      let rest = all_none i old new (omega (arith, le)) went.1 in
+      omega (arith, sum, rest, went.0.none)
+
+  pub all_whole : (i : ℕ) (old new : List TableWalk) → length old ≤ i → Gone i old new → HaveReadAll tables new
+  all_whole i [] [] le went = tt
+  all_whole zero [] (x ∷ new) le went = let none : x ∷ new ≡ [] = went in absurd cc
+  all_whole (suc i) [] (x ∷ new) le went = absurd went
+  all_whole zero (w ∷ old) new le went = absurd (omega (arith, le))
+  all_whole (suc i) (w ∷ old) [] le went = absurd went
+  all_whole (suc i) (w ∷ old) (x ∷ new) le went = (went.0.whole, all_whole i old new (omega (arith, le)) went.1)
+
+  -- no block was passed
+  pub went_passes : (i : ℕ) (old new : List TableWalk) → tells → Gone i old new → PassSound tables image old new
+  went_passes zero old new t went = subst (PassSound tables image old) (sym went) (pass_same tables image old)
+  went_passes (suc i) [] new t went = absurd went
+  went_passes (suc i) (w ∷ old) [] t went = absurd went
+  went_passes (suc i) (w ∷ old) (x ∷ new) t went = (pass_still tables image w x went.0.number (went.0.block t), went_passes i old new t went.1)
+
   -- ---- one more of them became another
 
   module _ (i : ℕ) (old now : List TableWalk) (d x : TableWalk) (went : Gone i old now) (lt : i < length now) where
@@ -228,11 +259,17 @@ module _ (tells : Type 0) (floor : KeyFloor) (tables : List Opened) (image : Ima
         let before = went_sum next_block_of i old now went (went_map next_block_of (λ w y p. p.block t) i old now went) in
         omega (arith, sum, before)
 
+    pub set_places : tells → x.walk.block ≡ here.walk.block → next_numbers set ≡ next_numbers old
+    set_places t same = map_set next_block_of now i x d lt same ∙ went_map next_block_of (λ w y p. p.block t) i old now went
+
     pub set_left : blocks_left tables set + blocks_left_in tables here ≡ blocks_left tables old + blocks_left_in tables x
     set_left =
         let sum = sum_by-set (blocks_left_in tables) now i x d lt in
         let before = went_sum (blocks_left_in tables) i old now went (went_map (blocks_left_in tables) (λ w y p. p.left) i old now went) in
         omega (arith, sum, before)
+
+    pub set_passes : tells → PassesSound tables image here x → PassSound tables image old set
+    set_passes t one = pass_then tables image old now set (went_passes i old now t went) (pass_set tables image now i x d lt one)
 
     same_wanted : tells → AreSoundWalks floor tables image old → wanted_by floor tables now ≡ wanted_by floor tables old
     same_wanted t sound = went_sum (wanted_block_of floor tables) i old now went (went_wanted i old now t went sound)

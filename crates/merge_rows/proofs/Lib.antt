@@ -9,6 +9,7 @@ pub mod Memories
 pub mod Merged
 pub mod Rank
 pub mod RowSteps
+pub mod SoundPasses
 pub mod Standing
 pub mod Stays
 pub mod Steps

@@ -4,7 +4,7 @@ use Rattle.block_model.specs.Places.{byte_of_page}
 use Rattle.disk_trait.specs.Image.{Image}
 use Rattle.disk_trait.specs.World.{ReadMoves, World}
 use Rattle.merge_rows.specs.Merges.{TableWalk, left_above}
-use Rattle.merge_rows.specs.Reads.{IsFewer, IsRead, SomeBlock, blocks_left, next_blocks, wanted_by}
+use Rattle.merge_rows.specs.Reads.{HaveReadAll, IsFewer, IsRead, PassSound, SomeBlock, blocks_left, next_blocks, next_numbers, wanted_by}
 use Rattle.merge_rows.specs.Rows.{KeyFloor}
 use Rattle.merge_rows.specs.Steps.{AreCaughtUp, AreHeadsClear, AreSoundWalks, numbers, stands}
 use Rattle.table_file.specs.Faults.{HasReadCause, IsNoWant}
@@ -23,6 +23,10 @@ pub record FillsWalks (tells : Bool) (floor : KeyFloor) (tables : List Opened) (
   -- then no entry at hand is at or below the floor, on any device
   pub clear : IfOk result (λ read. read ≡ false → AreHeadsClear floor new)
   pub sound : IsTrue tells → AreSoundWalks floor tables before.seen.held old → AreSoundWalks floor tables before.seen.held new
+  -- what was read and passed is sound, whatever the blocks are; and where none was read, none is due, and no block was left out
+  pub read_sound : IsTrue tells → PassSound tables before.seen.held old new
+  pub done : IfOk result (λ read. read ≡ false → wanted_by floor tables new ≡ 0)
+  pub read_all : IfOk result (λ read. read ≡ false → HaveReadAll tables new)
   -- where there is no walk, none is refused
   pub met : OnErr result (1 ≤ length old)
   pub taken : IfErr result IsNoWant
@@ -45,9 +49,11 @@ pub record AsksWalks (tells : Bool) (floor : KeyFloor) (tables : List Opened) (i
   pub same : IsTrue tells → map (left_above floor tables image) new ≡ map (left_above floor tables image) old
   pub sound : IsTrue tells → AreSoundWalks floor tables image old → AreSoundWalks floor tables image new
   pub next : IsTrue tells → next_blocks new ≡ next_blocks old
+  pub blocks : IsTrue tells → next_numbers new ≡ next_numbers old
   pub left : blocks_left tables new ≡ blocks_left tables old
   pub wanted : IsTrue tells → AreSoundWalks floor tables image old → wanted_by floor tables new ≡ wanted_by floor tables old
   pub some : wants ≡ true → 1 ≤ wanted_by floor tables new
-  pub none : IsTrue tells → AreSoundWalks floor tables image old → wants ≡ false → wanted_by floor tables new ≡ 0
+  pub none : wants ≡ false → wanted_by floor tables new ≡ 0
+  pub read_all : wants ≡ false → HaveReadAll tables new
   pub ready : IsTrue tells → wants ≡ false → AreCaughtUp floor tables image new
   pub clear : wants ≡ false → AreHeadsClear floor new

@@ -1,11 +1,13 @@
 -- What a merge reads, and why a read is refused.
-use Rattle.std.specs.Prelude.{◌≡◌, ◌<◌, ◌≤◌, ◌+◌, ◌-◌, ℕ, Bool, true, false, not, ◌&&◌, Contains, List, length, Option, Some, None, Result, Ok, Err}
-use Rattle.std.specs.List.{sum_by}
+use Rattle.std.specs.Prelude.{◌≡◌, ◌<◌, ◌≤◌, ◌+◌, ◌-◌, ℕ, Bool, true, false, not, ◌&&◌, Contains, List, [], ◌∷◌, length, map, Option, Some, None, Result, Ok, Err}
+use Rattle.std.specs.List.{AllByRecursion, sum_by}
+use Rattle.disk_trait.specs.Image.{Image}
 use Rattle.disk_trait.specs.World.{ReadMoves, World}
 use Rattle.entry_model.specs.Entries.{Entry}
 use Rattle.merge_rows.specs.Merges.{Merge, TableWalk, numbered, row_count}
 use Rattle.merge_rows.specs.Rows.{KeyFloor, clears}
 use Rattle.table_file.specs.Opened.{Opened}
+use Rattle.table_file.specs.Search.{IsSoundBlock}
 use Rattle.table_file.specs.Walks.{is_due}
 
 -- no entry above the floor is at hand
@@ -38,12 +40,49 @@ next_block_of w = w.walk.block
 abbrev pub next_blocks : List TableWalk → ℕ
 next_blocks walks = sum_by next_block_of walks
 
+-- these numbers, one of each walk
+abbrev pub next_numbers : List TableWalk → List ℕ
+next_numbers walks = map next_block_of walks
+
 -- the blocks that were not read yet
 abbrev pub blocks_left_in : List Opened → TableWalk → ℕ
 blocks_left_in tables w = row_count (numbered tables w.number) - w.walk.block
 
 abbrev pub blocks_left : List Opened → List TableWalk → ℕ
 blocks_left tables walks = sum_by (blocks_left_in tables) walks
+
+-- the blocks of a table from one number on and before another are sound
+abbrev pub AreSoundFrom : Option Opened → Image → ℕ → ℕ → Type 0
+AreSoundFrom None image from to = Unit {0}
+AreSoundFrom (Some t) image from to = (n : ℕ) → from ≤ n → n < to → IsSoundBlock t n image
+
+-- a walk went on, over sound blocks alone
+pub record PassesSound (tables : List Opened) (image : Image) (old new : TableWalk) : Type 0 where
+  pub number : new.number ≡ old.number
+  pub onward : old.walk.block ≤ new.walk.block
+  pub sound : AreSoundFrom (numbered tables old.number) image old.walk.block new.walk.block
+
+-- so each of some walks
+abbrev pub PassSound : List Opened → Image → List TableWalk → List TableWalk → Type 0
+PassSound tables image [] [] = Unit {0}
+PassSound tables image [] (w ∷ new) = ⊥
+PassSound tables image (o ∷ old) [] = ⊥
+PassSound tables image (o ∷ old) (w ∷ new) = PassesSound tables image o w × PassSound tables image old new
+
+-- where no entry is at hand, each block of the table was read
+abbrev pub HasReadAll : List Opened → TableWalk → Type 0
+HasReadAll tables w = w.walk.now ≡ None → row_count (numbered tables w.number) ≤ w.walk.block
+
+abbrev pub HaveReadAll : List Opened → List TableWalk → Type 0
+HaveReadAll tables walks = AllByRecursion (HasReadAll tables) walks
+
+-- a walk is at its end: no entry is at hand, and each block of the table was read
+pub record IsAtEnd (tables : List Opened) (w : TableWalk) : Type 0 where
+  pub none : w.walk.now ≡ None
+  pub whole : row_count (numbered tables w.number) ≤ w.walk.block
+
+abbrev pub AreAtEnd : List Opened → List TableWalk → Type 0
+AreAtEnd tables walks = AllByRecursion (IsAtEnd tables) walks
 
 -- reads and nothing else
 abbrev pub OnlyReads : World → World → Type 0

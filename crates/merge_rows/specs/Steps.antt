@@ -7,7 +7,7 @@ use Rattle.entry_model.specs.Newest.{KeysRise}
 use Rattle.map_model.specs.SortedMap.{Bytes}
 use Rattle.merge_rows.specs.Choosing.{IsHeadFrom, IsLeastAt, IsNone}
 use Rattle.merge_rows.specs.Merges.{Merge, TableWalk, blocks_in, left_above, merged_left, numbered, rows_left, walk_left, with_hand}
-use Rattle.merge_rows.specs.Reads.{blocks_left, next_blocks, wanted_by}
+use Rattle.merge_rows.specs.Reads.{blocks_left, next_blocks, next_numbers, wanted_by}
 use Rattle.merge_rows.specs.Rows.{KeyFloor, clears}
 use Rattle.table_file.specs.Opened.{Opened}
 use Rattle.table_file.specs.Walks.{BeginsWell, CursorWalk, most_block_pages, to_come}
@@ -122,11 +122,15 @@ abbrev pub IsChosen : List (Option Entry) → Option Entry → KeyFloor → KeyF
 IsChosen heads None old new = AllByRecursion IsNone heads × (new ≡ old)
 IsChosen heads (Some row) old new = ((place : ℕ) × IsLeastAt heads place row) × IsEntry row × (new ≡ passed_at row.key)
 
+-- no entry at hand is before the row
+abbrev pub IsLeastRow : Merge → Type 0
+IsLeastRow m = IfSome m.now (λ row. AllByRecursion (λ (w : TableWalk). IsHeadFrom row.key w.walk.now) m.walks)
+
 -- Each walk has caught up with the old floor, where the same is left of it, and no entry at hand is before the row.
 pub record IsPaced (tables : List Opened) (image : Image) (old new : Merge) : Type 0 where
   pub same : map (left_above old.floor tables image) new.walks ≡ map (left_above old.floor tables image) old.walks
   pub ready : AreCaughtUp old.floor tables image new.walks
-  pub least : IfSome new.now (λ row. AllByRecursion (λ (w : TableWalk). IsHeadFrom row.key w.walk.now) new.walks)
+  pub least : IsLeastRow new
 
 -- ---- walks that pass over what is in memory
 
@@ -137,5 +141,6 @@ pub record IsPassed (tells : Bool) (floor : KeyFloor) (tables : List Opened) (im
   pub same : IsTrue tells → map (left_above floor tables image) new ≡ map (left_above floor tables image) old
   pub sound : IsTrue tells → AreSoundWalks floor tables image old → AreSoundWalks floor tables image new
   pub next : next_blocks new ≡ next_blocks old
+  pub blocks : next_numbers new ≡ next_numbers old
   pub left : blocks_left tables new ≡ blocks_left tables old
   pub wanted : IsTrue tells → AreSoundWalks floor tables image old → wanted_by floor tables new ≡ wanted_by floor tables old

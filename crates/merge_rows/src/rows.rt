@@ -10,8 +10,8 @@ ghost use Rattle.entry_model.specs.Entries.{Entry, IsEntry, entry_of};
 ghost use Rattle.entry_model.specs.Newest.{KeysRise};
 ghost use Rattle.merge_rows.specs.Choosing.{heads_of};
 ghost use Rattle.merge_rows.specs.Merges.{TableWalk, merge_from, merged_left, numbered, rows_left, walk_at};
-ghost use Rattle.merge_rows.specs.Reads.{IsFewer, IsRead, OnlyReads, SomeBlock, blocks_left, next_blocks, wanted};
-ghost use Rattle.merge_rows.specs.Steps.{AreCaughtUp, AreHeadsClear, AreNumbersIn, AreWalksIn, HandsOutRow, IsCaughtUp, IsChosen, IsFaultStep, IsPaced, IsRowStep, IsSoundMerge, RowPasses, SourcesStay, StaysAt, numbers, stands};
+ghost use Rattle.merge_rows.specs.Reads.{AreAtEnd, HaveReadAll, IsFewer, IsRead, OnlyReads, PassSound, SomeBlock, blocks_left, next_blocks, next_numbers, wanted, wanted_by};
+ghost use Rattle.merge_rows.specs.Steps.{AreCaughtUp, AreHeadsClear, AreNumbersIn, AreWalksIn, HandsOutRow, IsCaughtUp, IsChosen, IsFaultStep, IsLeastRow, IsPaced, IsRowStep, IsSoundMerge, RowPasses, SourcesStay, StaysAt, numbers, stands};
 ghost use Rattle.merge_rows.specs.Rows.{above_floor};
 ghost use Rattle.table_file.specs.Faults.{HasReadCause, IsNoWant};
 ghost use Rattle.table_file.specs.Opened.{Opened};
@@ -126,7 +126,8 @@ impl<'m> MergeRows<'m> {
     /// Goes on to the next row, and answers whether there is one: it is then at hand. No memory.
     ///
     /// A block is read of each table that has no entry above the last row in memory, and of no other. At `Err` no row is lost:
-    /// the next call goes on where this one stood. Whatever stands on the device, keys rise from row to row.
+    /// the next call goes on where this one stood. Whatever stands on the device, keys rise from row to row, each block that was
+    /// passed is sound, and at the end no table has a block that was not read.
     //
     // A scan takes a step for each pair: where its parts are calls, results go by memory, and a pair costs more.
     #[inline(always)]
@@ -144,6 +145,11 @@ impl<'m> MergeRows<'m> {
         ensures met { OnErr result (1 ≤ length self.old.walks) }
         ensures owed { IsTrue D.tells → self.old.drops ≡ false → IsSoundMerge self.old tables.now.tables (D.world disk.old).seen.held → OnErr result (1 ≤ wanted self.old tables.now.tables) }
         ensures paced { IsTrue D.tells → self.old.drops ≡ false → OnOk result (IsPaced tables.now.tables (D.world disk.old).seen.held self.old self.new) }
+        ensures read_sound { IsTrue D.tells → PassSound tables.now.tables (D.world disk.old).seen.held self.old.walks self.new.walks }
+        ensures done { OnOk result (wanted_by self.old.floor tables.now.tables self.new.walks ≡ 0) }
+        ensures read_all { OnOk result (HaveReadAll tables.now.tables self.new.walks) }
+        ensures ended { IfOk result (λ some. some ≡ false → AreAtEnd tables.now.tables self.new.walks) }
+        ensures least { OnOk result (IsLeastRow self.new) }
         ensures taken { IfErr result IsNoWant }
         ensures cause { IfErr result (λ why. SomeBlock tables.now.tables (numbers self.old.walks) (λ t n. HasReadCause (byte_of_page (page_at t n)) (D.world disk.old) (D.world disk.new) why)) }
         ensures fault { IsTrue D.tells → IfErr result (λ why. SomeBlock tables.now.tables (numbers self.old.walks) (λ t n. IsGetFault t n (D.world disk.old).seen.held why)) }
@@ -187,6 +193,9 @@ impl<'m> MergeRows<'m> {
         ensures ready { IsTrue D.tells → IfOk result (λ read. read ≡ false → AreCaughtUp self.old.floor tables.now.tables (D.world disk.old).seen.held self.new.walks) }
         ensures clear { IfOk result (λ read. read ≡ false → AreHeadsClear self.old.floor self.new.walks) }
         ensures met { OnErr result (1 ≤ length self.old.walks) }
+        ensures read_sound { IsTrue D.tells → PassSound tables.now.tables (D.world disk.old).seen.held self.old.walks self.new.walks }
+        ensures done { IfOk result (λ read. read ≡ false → wanted self.new tables.now.tables ≡ 0) }
+        ensures read_all { IfOk result (λ read. read ≡ false → HaveReadAll tables.now.tables self.new.walks) }
         ensures taken { IfErr result IsNoWant }
         ensures cause { IfErr result (λ why. SomeBlock tables.now.tables (numbers self.old.walks) (λ t n. HasReadCause (byte_of_page (page_at t n)) (D.world disk.old) (D.world disk.new) why)) }
         ensures fault { IsTrue D.tells → IfErr result (λ why. SomeBlock tables.now.tables (numbers self.old.walks) (λ t n. IsGetFault t n (D.world disk.old).seen.held why)) }
@@ -211,7 +220,9 @@ impl<'m> MergeRows<'m> {
         ensures ready { IsTrue D.tells → result ≡ false → AreCaughtUp self.old.floor tables.now.tables (D.world disk.old).seen.held self.new.walks }
         ensures clear { result ≡ false → AreHeadsClear self.old.floor self.new.walks }
         ensures some { result ≡ true → 1 ≤ wanted self.new tables.now.tables }
-        ensures none { IsTrue D.tells → IsSoundMerge self.old tables.now.tables (D.world disk.old).seen.held → result ≡ false → wanted self.new tables.now.tables ≡ 0 }
+        ensures none { result ≡ false → wanted self.new tables.now.tables ≡ 0 }
+        ensures read_all { result ≡ false → HaveReadAll tables.now.tables self.new.walks }
+        ensures blocks { IsTrue D.tells → next_numbers self.new.walks ≡ next_numbers self.old.walks }
         ensures same { IsTrue D.tells → IsSoundMerge self.old tables.now.tables (D.world disk.old).seen.held → wanted self.new tables.now.tables ≡ wanted self.old tables.now.tables }
         ensures left { blocks_left tables.now.tables self.new.walks ≡ blocks_left tables.now.tables self.old.walks }
         ensures next { IsTrue D.tells → next_blocks self.new.walks ≡ next_blocks self.old.walks }
@@ -231,6 +242,7 @@ impl<'m> MergeRows<'m> {
         ensures said { result ≡ is_some self.new.now }
         ensures walks { self.new.walks ≡ self.old.walks }
         ensures sound { IfSome self.new.now IsEntry }
+        ensures ended { (tables : List Opened) → HaveReadAll tables self.old.walks → result ≡ false → AreAtEnd tables self.new.walks }
         ensures row { (tells : Bool) (tables : List Opened) (image : Image) → (IsTrue tells → AreCaughtUp self.old.floor tables image self.old.walks)
             → SourcesStay tells tables image self.old self.new × IsRowStep tells tables image self.old self.new }
     {
@@ -276,6 +288,11 @@ impl<'m> MergeRows<'m> {
         ensures met { OnErr result (1 ≤ length self.old.walks) }
         ensures owed { IsTrue D.tells → IsSoundMerge self.old tables.now.tables (D.world disk.old).seen.held → OnErr result (1 ≤ wanted self.old tables.now.tables) }
         ensures paced { IsTrue D.tells → OnOk result (IsPaced tables.now.tables (D.world disk.old).seen.held self.old self.new) }
+        ensures read_sound { IsTrue D.tells → PassSound tables.now.tables (D.world disk.old).seen.held self.old.walks self.new.walks }
+        ensures done { OnOk result (wanted_by self.old.floor tables.now.tables self.new.walks ≡ 0) }
+        ensures read_all { OnOk result (HaveReadAll tables.now.tables self.new.walks) }
+        ensures ended { IfOk result (λ some. some ≡ false → AreAtEnd tables.now.tables self.new.walks) }
+        ensures least { OnOk result (IsLeastRow self.new) }
         ensures taken { IfErr result IsNoWant }
         ensures cause { IfErr result (λ why. SomeBlock tables.now.tables (numbers self.old.walks) (λ t n. HasReadCause (byte_of_page (page_at t n)) (D.world disk.old) (D.world disk.new) why)) }
         ensures fault { IsTrue D.tells → IfErr result (λ why. SomeBlock tables.now.tables (numbers self.old.walks) (λ t n. IsGetFault t n (D.world disk.old).seen.held why)) }
@@ -320,6 +337,9 @@ impl<'m> MergeRows<'m> {
         ensures clear { OnOk result (AreHeadsClear self.old.floor self.new.walks) }
         ensures met { OnErr result (1 ≤ length self.old.walks) }
         ensures owed { IsTrue D.tells → IsSoundMerge self.old tables.now.tables (D.world disk.old).seen.held → OnErr result (1 ≤ wanted self.old tables.now.tables) }
+        ensures read_sound { IsTrue D.tells → PassSound tables.now.tables (D.world disk.old).seen.held self.old.walks self.new.walks }
+        ensures done { OnOk result (wanted_by self.old.floor tables.now.tables self.new.walks ≡ 0) }
+        ensures read_all { OnOk result (HaveReadAll tables.now.tables self.new.walks) }
         ensures taken { IfErr result IsNoWant }
         ensures cause { IfErr result (λ why. SomeBlock tables.now.tables (numbers self.old.walks) (λ t n. HasReadCause (byte_of_page (page_at t n)) (D.world disk.old) (D.world disk.new) why)) }
         ensures fault { IsTrue D.tells → IfErr result (λ why. SomeBlock tables.now.tables (numbers self.old.walks) (λ t n. IsGetFault t n (D.world disk.old).seen.held why)) }

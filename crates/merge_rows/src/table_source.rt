@@ -9,7 +9,7 @@ ghost use Rattle.key_base.specs.ByteOrder.{is_before};
 ghost use Rattle.merge_rows.specs.Filling.{AsksWalks, FillsWalks};
 ghost use Rattle.merge_rows.specs.Leads.{key_at_hand, lead_of};
 ghost use Rattle.merge_rows.specs.Merges.{blocks_in, left_above, numbered, walk_at, walk_left, with_hand};
-ghost use Rattle.merge_rows.specs.Reads.{BlockOf, IsFewer, IsRead, blocks_left_in, is_used_up, ones, wanted_block_of};
+ghost use Rattle.merge_rows.specs.Reads.{BlockOf, HasReadAll, IsFewer, IsRead, PassesSound, blocks_left_in, is_used_up, ones, wanted_block_of};
 ghost use Rattle.merge_rows.specs.Rows.{above_floor};
 ghost use Rattle.merge_rows.specs.Steps.{AreWalksIn, HasRoomFor, IsCaughtUp, IsHeadClear, IsPassed, IsSoundWalk, numbers, stands};
 ghost use Rattle.table_file.specs.Faults.{HasReadCause, IsNoWant};
@@ -147,6 +147,7 @@ impl TableSource {
         ensures wanted { result ≡ (is_used_up floor.now self.new.walk.now && is_due self.new.walk (length table.now.index.rows)) }
         ensures ready { IsTrue D.tells → result ≡ false → IsCaughtUp floor.now self.new.walk.now (with_hand self.new.walk.now (to_come self.new.walk (blocks_on table.now (D.world disk.old).seen.held))) }
         ensures clear { result ≡ false → IsHeadClear floor.now self.new.walk.now }
+        ensures read_all { result ≡ false → self.new.walk.now ≡ None → length table.now.index.rows ≤ self.new.walk.block }
         ensures still { (is_used_up floor.now self.old.walk.now && is_due self.old.walk (length table.now.index.rows)) ≡ true → (result ≡ true) × (self.new ≡ self.old) }
         ensures settled { is_used_up floor.now self.old.walk.now ≡ false → (result ≡ false) × (self.new ≡ self.old) }
         ensures once { IsTrue D.tells → IsSoundWalk floor.now self.old.walk (blocks_on table.now (D.world disk.old).seen.held)
@@ -193,6 +194,7 @@ impl TableSource {
         ensures asked { wanted_block_of floor.now tables.now.tables self.new ≡ ones result }
         ensures ready { IsTrue D.tells → result ≡ false → IsCaughtUp floor.now self.new.walk.now (walk_left tables.now.tables (D.world disk.old).seen.held self.new) }
         ensures clear { result ≡ false → IsHeadClear floor.now self.new.walk.now }
+        ensures read_all { result ≡ false → HasReadAll tables.now.tables self.new }
         ensures moves { ReadMoves 0 (D.world disk.old) (D.world disk.new) }
     {
         let table = table_of(self.number, tables);
@@ -222,6 +224,9 @@ impl TableSource {
         ensures clear { IfOk result (λ read. read ≡ false → IsHeadClear floor.now self.new.walk.now) }
         ensures sound { IsTrue D.tells → IsSoundWalk floor.now self.old.walk (blocks_in (numbered tables.now.tables self.old.number) (D.world disk.old).seen.held)
             → IsSoundWalk floor.now self.new.walk (blocks_in (numbered tables.now.tables self.old.number) (D.world disk.old).seen.held) }
+        ensures read_sound { IsTrue D.tells → PassesSound tables.now.tables (D.world disk.old).seen.held self.old self.new }
+        ensures done { IfOk result (λ read. read ≡ false → wanted_block_of floor.now tables.now.tables self.new ≡ 0) }
+        ensures read_all { IfOk result (λ read. read ≡ false → HasReadAll tables.now.tables self.new) }
         ensures taken { IfErr result IsNoWant }
         ensures cause { IfErr result (λ why. BlockOf tables.now.tables self.old.number (λ t n. HasReadCause (byte_of_page (page_at t n)) (D.world disk.old) (D.world disk.new) why)) }
         ensures fault { IsTrue D.tells → IfErr result (λ why. BlockOf tables.now.tables self.old.number (λ t n. IsGetFault t n (D.world disk.old).seen.held why)) }

@@ -5,10 +5,11 @@ use Rattle.disk_trait.specs.World.{ReadMoves}
 use Rattle.disk_trait.proofs.Calls.{reads_then}
 use Rattle.block_model.specs.Places.{byte_of_page}
 use Rattle.merge_rows.specs.Merges.{left_above}
-use Rattle.merge_rows.specs.Reads.{IsFewer, IsRead, blocks_left, wanted_by}
+use Rattle.merge_rows.specs.Reads.{IsFewer, IsRead, PassSound, blocks_left, wanted_by}
 use Rattle.merge_rows.specs.Steps.{AreCaughtUp, AreSoundWalks, AreWalksIn}
 use Rattle.table_file.specs.Search.{IsGetFault, page_at}
 use Rattle.merge_rows.proofs.Fills.{cause_since, err_then, ok_then, on_ok_then}
+use Rattle.merge_rows.proofs.SoundPasses.{pass_alike, pass_then}
 use Rattle.merge_rows.proofs.Stays.{lengths_are}
 use Rattle.merge_rows.proofs.filling.fill_behind.Goals as goal
 
@@ -36,6 +37,9 @@ returns g c =
       ready = λ t. subst (λ (h : Image). IfOk result (λ read. read ≡ false → AreCaughtUp floor tables h new)) still.held (fills.ready t);
       clear = fills.clear;
       sound = λ t sound. subst (λ (h : Image). AreSoundWalks floor tables h mid → AreSoundWalks floor tables h new) still.held (fills.sound t) (passed.sound t sound);
+      read_sound = λ t. pass_then tables before.seen.held old mid new (pass_alike tables before.seen.held old mid passed.numbers_are passed.blocks) (subst (λ (h : Image). PassSound tables h mid new) still.held (fills.read_sound t));
+      done = fills.done;
+      read_all = fills.read_all;
       met = subst (λ (n : ℕ). OnErr result (1 ≤ n)) (lengths_are mid old passed.numbers_are) fills.met;
       taken = fills.taken;
       cause = err_then result _ _ fills.cause (λ why is. (

@@ -1,4 +1,4 @@
-use Rattle.std.proofs.Common.{◌≡◌, ◌∙◌, ℕ, false, map, sym, subst}
+use Rattle.std.proofs.Common.{◌≡◌, ◌∙◌, map, sym, subst}
 use Rattle.disk_trait.specs.Image.{Image}
 use Rattle.disk_trait.proofs.Calls.{reads_then}
 use Rattle.merge_rows.specs.Merges.{left_above}
@@ -25,10 +25,12 @@ returns g c =
         same = λ t. subst (λ (h : Image). map (left_above floor tables h) new ≡ map (left_above floor tables h) mid) held (asks.same t) ∙ passed.same t;
         sound = λ t s. subst (λ (h : Image). AreSoundWalks floor tables h mid → AreSoundWalks floor tables h new) held (asks.sound t) (passed.sound t s);
         next = λ t. asks.next t ∙ passed.next;
+        blocks = λ t. asks.blocks t ∙ passed.blocks;
         left = asks.left ∙ passed.left;
         wanted = λ t s. subst (λ (h : Image). AreSoundWalks floor tables h mid → wanted_by floor tables new ≡ wanted_by floor tables mid) held (asks.wanted t) (passed.sound t s) ∙ passed.wanted t s;
         some = asks.some;
-        none = λ t s none. subst (λ (h : Image). AreSoundWalks floor tables h mid → wanted_by floor tables new ≡ 0) held (λ u. asks.none t u none) (passed.sound t s);
+        none = asks.none;
+        read_all = asks.read_all;
         ready = λ t none. subst (λ (h : Image). AreCaughtUp floor tables h new) held (asks.ready t none);
         clear = asks.clear;
       };

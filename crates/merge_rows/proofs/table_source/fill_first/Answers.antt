@@ -6,11 +6,11 @@ use Rattle.disk_trait.specs.World.{ReadMoves}
 use Rattle.disk_trait.proofs.Calls.{reads_more, reads_then}
 use Rattle.block_model.specs.Places.{byte_of_page}
 use Rattle.merge_rows.specs.Merges.{blocks_in, left_above, numbered, walk_left}
-use Rattle.merge_rows.specs.Reads.{IsFewer, blocks_left_in, next_block_of, wanted_block_of}
+use Rattle.merge_rows.specs.Reads.{IsFewer, PassesSound, blocks_left_in, next_block_of, wanted_block_of}
 use Rattle.merge_rows.specs.Steps.{AreWalksIn, IsCaughtUp, IsSoundWalk, number_of_walk, numbers, stand_of_walk, stands}
 use Rattle.table_file.specs.Search.{IsGetFault, page_at}
 use Rattle.merge_rows.proofs.Fills.{cause_since}
-use Rattle.merge_rows.proofs.FirstFills.{IsSoundHere, Went, all_clear, all_ready, fewer_err, fewer_none, fewer_one, none_wanted, number_among, number_here, read_none, read_one, set_left, set_next, set_numbers, set_same, set_sound, set_stands, set_wanted, sound_here, wanted_here, went_by, went_length, went_map, went_on, went_sound, went_sum, went_wanted}
+use Rattle.merge_rows.proofs.FirstFills.{IsSoundHere, Went, all_clear, all_none, all_ready, all_whole, fewer_err, fewer_none, fewer_one, none_wanted, number_among, number_here, read_none, read_one, set_left, set_next, set_numbers, set_passes, set_same, set_sound, set_stands, set_wanted, sound_here, wanted_here, went_by, went_length, went_map, went_on, went_passes, went_sound, went_sum, went_wanted}
 use Rattle.merge_rows.proofs.table_source.fill_first.Goals as goal
 
 pub fill-requires-clause-there : goal.fill-requires-clause-there
@@ -75,6 +75,8 @@ loop-i-preserved g c =
             (subst (λ (h : Image). IsSoundWalk floor (get_or now i d).walk (blocks_in (numbered tables (get_or now i d).number) h) → IsSoundWalk floor x.walk (blocks_in (numbered tables (get_or now i d).number) h)) held (c.fill.ensures.sound t) s);
         block = λ t. let counted = c.in-Ok-false.ensures.counted t in omega (arith, counted, idle.reads, idle.reads_later);
         left = read_none c.fill.result (blocks_left_in tables (get_or now i d)) (blocks_left_in tables x) is c.fill.ensures.left;
+        none = c.in-Ok-false.ensures.done c.in-Ok-false.field-0-test;
+        whole = c.in-Ok-false.ensures.read_all c.in-Ok-false.field-0-test;
         fewer = λ t s. fewer_none c.fill.result (wanted_block_of floor tables (get_or now i d)) (wanted_block_of floor tables x) is
             (subst (λ (h : Image). IsSoundWalk floor (get_or now i d).walk (blocks_in (numbered tables (get_or now i d).number) h) → IsFewer c.fill.result (wanted_block_of floor tables (get_or now i d)) (wanted_block_of floor tables x)) held (λ u. (c.fill.ensures.once t u).1) s);
       }));
@@ -111,6 +113,9 @@ returns-in-Ok-true g c =
       ready = λ t none. absurd (false≢true (sym none));
       clear = λ none. absurd (false≢true (sym none));
       sound = λ t s. set_sound tells floor tables image i old now d x went lt t (sounds t) s;
+      read_sound = λ t. set_passes tells floor tables image i old now d x went lt t (subst (λ (h : Image). PassesSound tables h (get_or now i d) x) held (c.fill.ensures.read_sound t));
+      done = λ none. absurd (false≢true (sym none));
+      read_all = λ none. absurd (false≢true (sym none));
       met = tt;
       taken = tt;
       cause = tt;
@@ -164,6 +169,9 @@ returns-in-Err g c =
       ready = λ t. tt;
       clear = tt;
       sound = λ t s. set_sound tells floor tables image i old now d x went lt t (sounds t) s;
+      read_sound = λ t. set_passes tells floor tables image i old now d x went lt t (subst (λ (h : Image). PassesSound tables h (get_or now i d) x) held (c.fill.ensures.read_sound t));
+      done = tt;
+      read_all = tt;
       met = let as_long = went_length tells floor tables image i old now went in omega (arith, lt, as_long);
       taken = c.in-Err.ensures.taken;
       cause =
@@ -203,6 +211,9 @@ returns g c =
       ready = λ t none. all_ready tells floor tables image i old now c.loop-i-test.false t went;
       clear = λ none. all_clear tells floor tables image i old now c.loop-i-test.false went;
       sound = λ t s. went_sound tells floor tables image i old now t went s;
+      read_sound = λ t. went_passes tells floor tables image i old now t went;
+      done = λ none. all_none tells floor tables image i old now c.loop-i-test.false went;
+      read_all = λ none. all_whole tells floor tables image i old now c.loop-i-test.false went;
       met = tt;
       taken = tt;
       cause = tt;

@@ -29,6 +29,7 @@ returns-clause-passed g c =
       sound = λ t s. all_set (IsSoundHere floor tables image) old i x d lt
           (λ u. subst (λ (n : ℕ). IsSoundWalk floor x.walk (blocks_in (numbered tables n) image)) (sym c.pass.ensures.number) (c.pass.ensures.sound t u)) s;
       next = let sum = sum_by-set next_block_of old i x d lt in omega (arith, sum, c.pass.ensures.block);
+      blocks = map_set next_block_of old i x d lt c.pass.ensures.block;
       left = let sum = sum_by-set (blocks_left_in tables) old i x d lt in omega (arith, sum, few);
       wanted = λ t s.
           let sum = sum_by-set (wanted_block_of floor tables) old i x d lt in

@@ -6,7 +6,7 @@ use Rattle.disk_trait.proofs.Calls.{reads_then}
 use Rattle.merge_rows.specs.Merges.{blocks_in, left_above, numbered, row_count, walk_left}
 use Rattle.merge_rows.specs.Reads.{blocks_left_in, next_block_of, ones, wanted_block_of}
 use Rattle.merge_rows.specs.Steps.{AreWalksIn, IsCaughtUp, IsSoundWalk, number_of_walk, stand_of_walk, stands}
-use Rattle.merge_rows.proofs.FirstFills.{IsSoundHere, Went, all_clear, all_ready, none_wanted, number_here, set_left, set_next, set_numbers, set_same, set_some, set_sound, set_stands, set_wanted, sound_here, went_by, went_map, went_on, went_sound, went_sum, went_wanted}
+use Rattle.merge_rows.proofs.FirstFills.{IsSoundHere, Went, all_clear, all_none, all_ready, all_whole, number_here, set_left, set_next, set_numbers, set_places, set_same, set_some, set_sound, set_stands, set_wanted, sound_here, went_by, went_map, went_on, went_sound, went_sum, went_wanted}
 use Rattle.merge_rows.proofs.table_source.wants_any.Goals as goal
 
 pub pass-requires-clause-there : goal.pass-requires-clause-there
@@ -70,6 +70,8 @@ loop-i-preserved g c =
             (subst (λ (h : Image). IsSoundWalk floor (get_or now i d).walk (blocks_in (numbered tables (get_or now i d).number) h) → IsSoundWalk floor x.walk (blocks_in (numbered tables (get_or now i d).number) h)) held (c.pass.ensures.sound t) s);
         block = λ t. c.pass.ensures.block;
         left = ap₂ (λ (n b : ℕ). row_count (numbered tables n) - b) c.pass.ensures.number c.pass.ensures.block;
+        none = none;
+        whole = c.pass.ensures.read_all c.if-pass.false;
         fewer = λ t s.
             let same = subst (λ (h : Image). IsSoundWalk floor (get_or now i d).walk (blocks_in (numbered tables (get_or now i d).number) h) → wanted_block_of floor tables x ≡ wanted_block_of floor tables (get_or now i d)) held (c.pass.ensures.wanted t) s in
             (none, sym same ∙ none);
@@ -105,6 +107,7 @@ returns-then-pass g c =
         same = λ t. set_same tells floor tables image i old now d x went lt t (same t);
         sound = λ t s. set_sound tells floor tables image i old now d x went lt t (sounds t) s;
         next = λ t. let sum = set_next tells floor tables image i old now d x went lt t in omega (arith, sum, c.pass.ensures.block);
+        blocks = λ t. set_places tells floor tables image i old now d x went lt t c.pass.ensures.block;
         left = let sum = set_left tells floor tables image i old now d x went lt in omega (arith, sum, few);
         wanted = λ t s.
             let sum = set_wanted tells floor tables image i old now d x went lt t s in
@@ -112,7 +115,8 @@ returns-then-pass g c =
             (sound_here tells floor tables image i old now d x went lt t s) in
             omega (arith, sum, one);
         some = λ _. set_some (wanted_block_of floor tables) now i x lt (c.pass.ensures.asked ∙ ap ones c.if-pass.true);
-        none = λ t s none. absurd (false≢true (sym none));
+        none = λ none. absurd (false≢true (sym none));
+        read_all = λ none. absurd (false≢true (sym none));
         ready = λ t none. absurd (false≢true (sym none));
         clear = λ none. absurd (false≢true (sym none));
       };
@@ -136,10 +140,12 @@ returns g c =
         same = λ t. went_map tells floor tables image (left_above floor tables image) (λ w y p. p.same t) i old now went;
         sound = λ t s. went_sound tells floor tables image i old now t went s;
         next = λ t. went_sum tells floor tables image next_block_of i old now went (went_map tells floor tables image next_block_of (λ w y p. p.block t) i old now went);
+        blocks = λ t. went_map tells floor tables image next_block_of (λ w y p. p.block t) i old now went;
         left = went_sum tells floor tables image (blocks_left_in tables) i old now went (went_map tells floor tables image (blocks_left_in tables) (λ w y p. p.left) i old now went);
         wanted = λ t s. went_sum tells floor tables image (wanted_block_of floor tables) i old now went (went_wanted tells floor tables image i old now t went s);
         some = λ some. absurd (false≢true some);
-        none = λ t s _. went_sum tells floor tables image (wanted_block_of floor tables) i old now went (went_wanted tells floor tables image i old now t went s) ∙ none_wanted tells floor tables image i old now c.loop-i-test.false t went s;
+        none = λ _. all_none tells floor tables image i old now c.loop-i-test.false went;
+        read_all = λ _. all_whole tells floor tables image i old now c.loop-i-test.false went;
         ready = λ t none. all_ready tells floor tables image i old now c.loop-i-test.false t went;
         clear = λ none. all_clear tells floor tables image i old now c.loop-i-test.false went;
       };

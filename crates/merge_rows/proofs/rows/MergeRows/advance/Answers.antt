@@ -1,16 +1,18 @@
-use Rattle.std.proofs.Common.{◌≡◌, ◌+◌, ◌≤◌, ◌∙◌, ℕ, List, true, false, sym, subst, arith}
+use Rattle.std.proofs.Common.{◌≡◌, ◌+◌, ◌≤◌, ◌∙◌, ℕ, List, true, false, refl, sym, subst, arith}
 use Rattle.std.specs.Prelude.{Contains, IsTrue, is_some}
 use Rattle.std.proofs.lemmas.Bool.{false≢true}
 use Rattle.disk_trait.specs.Image.{Image}
+use Rattle.disk_trait.proofs.Calls.{reads_none}
 use Rattle.block_model.specs.Places.{byte_of_page}
 use Rattle.key_base.specs.Limits.{max_key_bytes}
 use Rattle.merge_rows.specs.Merges.{Merge, merged_left}
-use Rattle.merge_rows.specs.Reads.{blocks_left, wanted}
+use Rattle.merge_rows.specs.Reads.{PassSound, blocks_left, wanted}
 use Rattle.merge_rows.specs.Steps.{HandsOutRow, IsPaced, IsSoundMerge, SourcesStay, StaysAt}
 use Rattle.table_file.specs.Search.{IsGetFault, page_at}
 use Rattle.merge_rows.proofs.Fills.{cause_since}
 use Rattle.merge_rows.proofs.Rank.{falls, key_of_entry}
 use Rattle.merge_rows.proofs.RowSteps.{fault_step, hidden_drops, hidden_step, none_step, rises_on, row_step, sources_then}
+use Rattle.merge_rows.proofs.SoundPasses.{pass_same, pass_then, wanted_falls}
 use Rattle.merge_rows.proofs.Stays.{only_both, still_some}
 use Rattle.merge_rows.proofs.Steps.{rises_then}
 use Rattle.merge_rows.proofs.rows.MergeRows.advance.Goals as goal
@@ -154,6 +156,23 @@ loop-why-smaller g c =
     let some : is_some new.now ≡ true = sym c.in-Ok-true.ensures.said ∙ c.in-Ok-true.field-0-test in
     falls max_key_bytes new.now c.loop-why.self.floor new.floor some c.in-Ok-true.ensures.passes (key_of_entry new.now c.in-Ok-true.ensures.sound)
 
+pub loop-why-init : goal.loop-why-init
+loop-why-init g c =
+    let tables = c.args.tables.now.tables in
+    let before = g.D.Disk.world c.args.disk.now in
+    let first = c.args.self.now in
+    record {
+      stay = record { numbers_are = refl; stands_are = refl; drops_are = refl; sound = λ t s. s };
+      rows = λ t s. refl;
+      rises = λ key clear. clear;
+      read_sound = λ t. pass_same tables before.seen.held first.walks;
+      moves = (0, reads_none 0 before);
+      left = omega arith;
+      spent = λ t s. omega arith;
+      counted = λ t. refl;
+      first = λ all. (refl, reads_none 0 before);
+    }
+
 pub loop-why-preserved : goal.loop-why-preserved
 loop-why-preserved g c =
     let tells = g.D.Disk.tells in
@@ -175,6 +194,7 @@ loop-why-preserved g c =
       stay = sources_then tells tables image first old new from.stay kept;
       rows = hidden_step tells tables image first old new from.stay from.rows from.rises kept hands c.in-Ok-true.ensures.passes some c.if-is_shown.ensures;
       rises = rises_then first.floor old.floor new.floor from.rises (rises_on new.now old.floor new.floor c.in-Ok-true.ensures.passes);
+      read_sound = λ t. pass_then tables image first.walks old.walks new.walks (from.read_sound t) (subst (λ (h : Image). PassSound tables h old.walks new.walks) held (c.step.ensures.read_sound t));
       moves = only_both before mid after from.moves c.step.ensures.moves;
       left = (let one = from.left in let two = c.in-Ok-true.ensures.left in omega (arith, one, two));
       spent = λ t s.
@@ -250,3 +270,44 @@ returns-in-Err-clause-tried g c t s =
     let one = from.spent t s in
     let two = subst (λ (h : Image). IsSoundMerge old tables h → after.seen.reads ≤ mid.seen.reads + blocks_left tables old.walks) held (c.in-Err.ensures.tried t) (from.stay.sound t s) in
     omega (arith, one, two)
+
+-- ---- what was passed is sound, and at the end no block is wanted
+
+pub returns-in-Ok-false-clause-read_sound : goal.returns-in-Ok-false-clause-read_sound
+returns-in-Ok-false-clause-read_sound g c t =
+    let tables = c.args.tables.now.tables in
+    let old = c.loop-why.self in
+    let new = c.step.new.self in
+    let from = c.loop-why.invariant in
+    pass_then tables (g.D.Disk.world c.args.disk.now).seen.held c.args.self.now.walks old.walks new.walks (from.read_sound t)
+    (subst (λ (h : Image). PassSound tables h old.walks new.walks) from.moves.1.held (c.step.ensures.read_sound t))
+
+pub returns-then-is_shown-clause-read_sound : goal.returns-then-is_shown-clause-read_sound
+returns-then-is_shown-clause-read_sound g c t =
+    let tables = c.args.tables.now.tables in
+    let old = c.loop-why.self in
+    let new = c.step.new.self in
+    let from = c.loop-why.invariant in
+    pass_then tables (g.D.Disk.world c.args.disk.now).seen.held c.args.self.now.walks old.walks new.walks (from.read_sound t)
+    (subst (λ (h : Image). PassSound tables h old.walks new.walks) from.moves.1.held (c.step.ensures.read_sound t))
+
+pub returns-in-Err-clause-read_sound : goal.returns-in-Err-clause-read_sound
+returns-in-Err-clause-read_sound g c t =
+    let tables = c.args.tables.now.tables in
+    let old = c.loop-why.self in
+    let new = c.step.new.self in
+    let from = c.loop-why.invariant in
+    pass_then tables (g.D.Disk.world c.args.disk.now).seen.held c.args.self.now.walks old.walks new.walks (from.read_sound t)
+    (subst (λ (h : Image). PassSound tables h old.walks new.walks) from.moves.1.held (c.step.ensures.read_sound t))
+
+pub returns-in-Ok-false-clause-done : goal.returns-in-Ok-false-clause-done
+returns-in-Ok-false-clause-done g c = wanted_falls c.args.self.now.floor c.loop-why.self.floor c.args.tables.now.tables c.step.new.self.walks c.loop-why.invariant.rises c.in-Ok-false.ensures.done
+
+pub returns-then-is_shown-clause-done : goal.returns-then-is_shown-clause-done
+returns-then-is_shown-clause-done g c = wanted_falls c.args.self.now.floor c.loop-why.self.floor c.args.tables.now.tables c.step.new.self.walks c.loop-why.invariant.rises c.in-Ok-true.ensures.done
+
+pub returns-in-Ok-false-clause-ended : goal.returns-in-Ok-false-clause-ended
+returns-in-Ok-false-clause-ended g c none = c.in-Ok-false.ensures.ended c.in-Ok-false.field-0-test
+
+pub returns-then-is_shown-clause-ended : goal.returns-then-is_shown-clause-ended
+returns-then-is_shown-clause-ended g c none = absurd (false≢true (sym none))

@@ -3,7 +3,7 @@ use Rattle.std.specs.Prelude.{IsTrue}
 use Rattle.disk_trait.specs.World.{ReadMoves}
 use Rattle.key_base.specs.Limits.{max_key_bytes}
 use Rattle.merge_rows.specs.Merges.{rows_left}
-use Rattle.merge_rows.specs.Reads.{OnlyReads, blocks_left, next_blocks}
+use Rattle.merge_rows.specs.Reads.{OnlyReads, PassSound, blocks_left, next_blocks}
 use Rattle.merge_rows.specs.Steps.{FloorRises, IsSoundMerge, SourcesStay}
 use Rattle.merge_rows.proofs.Rank.{height, strings}
 use Rattle.merge_rows.proofs.rows.MergeRows.advance.Given as goal
@@ -18,6 +18,7 @@ invariant-loop-why g l =
       stay : SourcesStay g.D.Disk.tells l.tables.tables before.seen.held l.fn.self l.self;
       rows : tells → IsSoundMerge l.fn.self l.tables.tables before.seen.held → rows_left l.self l.tables.tables before.seen.held ≡ rows_left l.fn.self l.tables.tables before.seen.held;
       rises : FloorRises l.fn.self.floor l.self.floor;
+      read_sound : tells → PassSound l.tables.tables before.seen.held l.fn.self.walks l.self.walks;
       moves : OnlyReads before after;
       left : blocks_left l.tables.tables l.self.walks ≤ blocks_left l.tables.tables l.fn.self.walks;
       spent : tells → IsSoundMerge l.fn.self l.tables.tables before.seen.held → after.seen.reads + blocks_left l.tables.tables l.self.walks ≤ before.seen.reads + blocks_left l.tables.tables l.fn.self.walks;

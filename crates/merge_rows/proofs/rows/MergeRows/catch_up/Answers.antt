@@ -1,18 +1,37 @@
-use Rattle.std.proofs.Common.{◌≡◌, ◌∙◌, ◌<◌, ℕ, List, Bool, true, false, sym, ap, subst, arith}
+use Rattle.std.proofs.Common.{rules, ◌≡◌, ◌∙◌, ◌<◌, ℕ, List, Bool, true, false, sym, ap, subst, arith}
 use Rattle.std.specs.Prelude.{Contains, Ok}
 use Rattle.disk_trait.specs.Image.{Image}
 use Rattle.disk_trait.specs.World.{ReadMoves}
+use Rattle.disk_trait.proofs.Calls.{reads_none}
 use Rattle.block_model.specs.Places.{byte_of_page}
 use Rattle.entry_model.specs.Entries.{Entry}
-use Rattle.merge_rows.specs.Reads.{IsFewer, blocks_left, wanted}
+use Rattle.merge_rows.specs.Merges.{Merge, TableWalk}
+use Rattle.merge_rows.specs.Reads.{IsFewer, PassSound, blocks_left, wanted, wanted_by}
+use Rattle.merge_rows.specs.Rows.{KeyFloor}
 use Rattle.merge_rows.specs.Steps.{IsCaughtUp, IsSoundMerge, StaysAt}
 use Rattle.table_file.specs.Search.{IsGetFault, page_at}
 use Rattle.table_file.specs.Walks.{first_of}
 use Rattle.merge_rows.proofs.Fills.{cause_since}
 use Rattle.merge_rows.proofs.FirstFills.{fewer_err, fewer_one}
 use Rattle.merge_rows.proofs.Stays.{fewer_then, only_then, read_none, read_one, sound_too, stays_since, still_some}
+use Rattle.merge_rows.proofs.SoundPasses.{pass_same, pass_then}
 use Rattle.merge_rows.proofs.WantedLeft.{wanted_left}
 use Rattle.merge_rows.proofs.rows.MergeRows.catch_up.Goals as goal
+
+pub loop-why-init : goal.loop-why-init
+loop-why-init g c =
+    let tables = c.args.tables.now.tables in
+    let image = (g.D.Disk.world c.args.disk.now).seen.held in
+    record {
+      stays = search rules;
+      memory = search rules;
+      read_sound = λ t. subst (λ (walks : List TableWalk). PassSound tables image walks c.self.inside.walks.items) (ap (λ (m : Merge). m.walks) c.self.view_is) (pass_same tables image c.self.inside.walks.items);
+      moves = (0, reads_none 0 (g.D.Disk.world c.args.disk.now));
+      left = search rules;
+      spent = search rules;
+      counted = search rules;
+      bounded = search rules;
+    }
 
 pub loop-why-preserved : goal.loop-why-preserved
 loop-why-preserved g c =
@@ -29,6 +48,7 @@ loop-why-preserved g c =
     record {
       stays = stays_since g.D.Disk.tells tables before.seen.held c.args.self.now old new from.stays (subst (λ (h : Image). StaysAt g.D.Disk.tells tables h old new) held c.fill.ensures.stays);
       memory = subst (λ (es : List Entry). IsCaughtUp c.args.self.now.floor (first_of es) es) (sym c.fill.ensures.memory) from.memory;
+      read_sound = λ t. pass_then tables before.seen.held c.args.self.now.walks old.walks new.walks (from.read_sound t) (subst (λ (h : Image). PassSound tables h old.walks new.walks) held (c.fill.ensures.read_sound t));
       moves = only_then 2 before mid after from.moves c.fill.ensures.moves;
       left = omega (arith, fewer, from.left);
       spent = λ t s.
@@ -112,3 +132,29 @@ returns-in-Err-clause-tried g c t s =
     let left = wanted_left old.floor tables old.walks some in
     let one = from.spent t s in
     omega (arith, one, once.0.reads, left)
+
+-- ---- what was passed is sound, and at the end no block is wanted
+
+pub returns-in-Ok-false-clause-read_sound : goal.returns-in-Ok-false-clause-read_sound
+returns-in-Ok-false-clause-read_sound g c t =
+    let tables = c.args.tables.now.tables in
+    let before = g.D.Disk.world c.args.disk.now in
+    let old = c.loop-why.self in
+    let new = c.fill.new.self in
+    let from = c.loop-why.invariant in
+    pass_then tables before.seen.held c.args.self.now.walks old.walks new.walks (from.read_sound t) (subst (λ (h : Image). PassSound tables h old.walks new.walks) from.moves.1.held (c.fill.ensures.read_sound t))
+
+pub returns-in-Err-clause-read_sound : goal.returns-in-Err-clause-read_sound
+returns-in-Err-clause-read_sound g c t =
+    let tables = c.args.tables.now.tables in
+    let before = g.D.Disk.world c.args.disk.now in
+    let old = c.loop-why.self in
+    let new = c.fill.new.self in
+    let from = c.loop-why.invariant in
+    pass_then tables before.seen.held c.args.self.now.walks old.walks new.walks (from.read_sound t) (subst (λ (h : Image). PassSound tables h old.walks new.walks) from.moves.1.held (c.fill.ensures.read_sound t))
+
+pub returns-in-Ok-false-clause-done : goal.returns-in-Ok-false-clause-done
+returns-in-Ok-false-clause-done g c =
+    let tables = c.args.tables.now.tables in
+    let new = c.fill.new.self in
+    subst (λ (f : KeyFloor). wanted_by f tables new.walks ≡ 0) (c.fill.ensures.stays.floor_is ∙ c.loop-why.invariant.stays.floor_is) (c.in-Ok-false.ensures.done c.in-Ok-false.field-0-test)

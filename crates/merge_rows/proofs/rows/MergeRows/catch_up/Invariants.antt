@@ -1,7 +1,7 @@
 use Rattle.std.proofs.Common.{◌≡◌, ◌+◌, ◌-◌, ◌≤◌}
 use Rattle.std.specs.Prelude.{IsTrue, None}
 use Rattle.disk_trait.specs.World.{ReadMoves}
-use Rattle.merge_rows.specs.Reads.{OnlyReads, blocks_left, next_blocks, wanted}
+use Rattle.merge_rows.specs.Reads.{OnlyReads, PassSound, blocks_left, next_blocks, wanted}
 use Rattle.merge_rows.specs.Steps.{IsCaughtUp, IsSoundMerge, StaysAt}
 use Rattle.table_file.specs.Walks.{first_of}
 use Rattle.merge_rows.proofs.rows.MergeRows.catch_up.Given as goal
@@ -16,6 +16,7 @@ invariant-loop-why g l =
     record {
       stays : StaysAt g.D.Disk.tells tables before.seen.held l.fn.self (record l.self { now = None });
       memory : IsCaughtUp l.fn.self.floor (first_of l.self.memory) l.self.memory;
+      read_sound : tells → PassSound tables before.seen.held l.fn.self.walks l.self.walks;
       moves : OnlyReads before after;
       left : blocks_left tables l.self.walks ≤ blocks_left tables l.fn.self.walks;
       spent : tells → IsSoundMerge l.fn.self tables before.seen.held → after.seen.reads + blocks_left tables l.self.walks ≤ before.seen.reads + blocks_left tables l.fn.self.walks;

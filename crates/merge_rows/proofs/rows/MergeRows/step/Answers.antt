@@ -5,10 +5,11 @@ use Rattle.std.proofs.Common.{map, ◌≡◌, ◌∙◌, ◌+◌, ◌≤◌, Lis
 use Rattle.entry_model.specs.Entries.{Entry}
 use Rattle.merge_rows.specs.Rows.{KeyFloor}
 use Rattle.merge_rows.specs.Merges.{TableWalk, left_above, merged_left}
-use Rattle.merge_rows.specs.Reads.{blocks_left}
+use Rattle.merge_rows.specs.Reads.{AreAtEnd, HaveReadAll, PassSound, blocks_left, wanted_by}
 use Rattle.merge_rows.specs.Steps.{AreCaughtUp, AreHeadsClear, HandsOutRow, IsCaughtUp, RowPasses, numbers, stands}
 use Rattle.table_file.specs.Walks.{first_of}
 use Rattle.merge_rows.proofs.RowSteps.{chosen_least, chosen_passes, step_rows, step_sound}
+use Rattle.merge_rows.proofs.SoundPasses.{chosen_ended}
 use Rattle.merge_rows.proofs.rows.MergeRows.step.Goals as goal
 
 pub returns-clause-kept : goal.returns-clause-kept
@@ -86,3 +87,30 @@ returns-clause-spent g c t s =
     let tables = c.args.tables.now.tables in
     subst (λ (walks : List TableWalk). (g.D.Disk.world c.catch_up.new.disk).seen.reads + blocks_left tables walks ≤ (g.D.Disk.world c.args.disk.now).seen.reads + blocks_left tables c.args.self.now.walks)
     (sym c.choose.ensures.walks) (c.in_ok-catch_up.ensures.spent t s)
+
+-- ---- what was passed is sound, and at the end no block is wanted
+
+pub returns-clause-read_sound : goal.returns-clause-read_sound
+returns-clause-read_sound g c t =
+    subst (PassSound c.args.tables.now.tables (g.D.Disk.world c.args.disk.now).seen.held c.args.self.now.walks) (sym c.choose.ensures.walks) (c.catch_up.ensures.read_sound t)
+
+pub returns-clause-done : goal.returns-clause-done
+returns-clause-done g c = subst (λ (walks : List TableWalk). wanted_by c.args.self.now.floor c.args.tables.now.tables walks ≡ 0) (sym c.choose.ensures.walks) c.in_ok-catch_up.ensures.done
+
+pub returns-clause-read_all : goal.returns-clause-read_all
+returns-clause-read_all g c = subst (HaveReadAll c.args.tables.now.tables) (sym c.choose.ensures.walks) c.in_ok-catch_up.ensures.read_all
+
+pub returns-clause-ended : goal.returns-clause-ended
+returns-clause-ended g c ends =
+    let tables = c.args.tables.now.tables in
+    let mid = c.catch_up.new.self in
+    let new = c.choose.new.self in
+    subst (AreAtEnd tables) (sym c.choose.ensures.walks)
+    (chosen_ended mid.floor new.floor tables mid.memory mid.walks new.now c.choose.ensures.chosen (sym c.choose.ensures.said ∙ ends) c.in_ok-catch_up.ensures.read_all)
+
+pub returns-clause-least : goal.returns-clause-least
+returns-clause-least g c =
+    let mid = c.catch_up.new.self in
+    let new = c.choose.new.self in
+    subst (λ (walks : List TableWalk). IfSome new.now (λ row. AllByRecursion (λ (w : TableWalk). IsHeadFrom row.key w.walk.now) walks)) (sym c.choose.ensures.walks)
+    (chosen_least mid.floor new.floor mid.memory mid.walks new.now c.choose.ensures.chosen)

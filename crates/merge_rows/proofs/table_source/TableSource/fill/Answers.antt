@@ -1,13 +1,15 @@
-use Rattle.std.proofs.Common.{◌≡◌, ◌∙◌, ℕ, true, length, refl, sym, ap, subst}
-use Rattle.std.specs.Prelude.{Some}
+use Rattle.std.proofs.Common.{◌≡◌, ◌≤◌, ◌∙◌, ℕ, true, length, refl, sym, ap, subst, arith}
+use Rattle.std.specs.Prelude.{Option, Some}
 use Rattle.disk_trait.specs.Image.{Image}
 use Rattle.block_model.specs.Places.{byte_of_page}
-use Rattle.merge_rows.specs.Merges.{TableWalk, numbered, with_hand}
-use Rattle.merge_rows.specs.Reads.{is_used_up}
+use Rattle.merge_rows.specs.Merges.{TableWalk, numbered, row_count, with_hand}
+use Rattle.merge_rows.specs.Reads.{is_used_up, ones}
 use Rattle.merge_rows.specs.Rows.{above_floor}
-use Rattle.table_file.specs.Search.{IsGetFault, page_at}
+use Rattle.table_file.specs.Opened.{Opened}
+use Rattle.table_file.specs.Search.{IsGetFault, IsSoundBlock, page_at}
 use Rattle.table_file.specs.Walks.{CursorWalk, HandsOut, blocks_on, is_due, to_come}
-use Rattle.merge_rows.proofs.Fills.{cause_since, err_is, first_true, left_of, ok_is, read_same}
+use Rattle.merge_rows.proofs.Fills.{cause_since, err_is, first_true, left_of, ok_is, read_same, wants_of}
+use Rattle.merge_rows.proofs.SoundPasses.{blocks_of}
 use Rattle.merge_rows.proofs.Steps.{failed_same}
 use Rattle.merge_rows.proofs.table_source.TableSource.fill.Goals as goal
 use Rattle.merge_rows.proofs.table_source.TableSource.fill.Goals.{in-Ok, in-Err}
@@ -61,3 +63,38 @@ returns-clause-fault g c t = elim c.match-answer.branch [
     subst (λ (h : Image). IsGetFault c.table_of-table.result.now c.advance-answer.new.self.block h w.in-Err.why) c.pass_over.ensures.moves.held (w.in-Err.ensures.fault t),
   )
 ]
+
+-- the blocks that the walk passed are those that were read for it
+pub returns-clause-read_sound : goal.returns-clause-read_sound
+returns-clause-read_sound g c t =
+    let tables = c.args.tables.now.tables in
+    let image = (g.D.Disk.world c.args.disk.now).seen.held in
+    let table = c.table_of-table.result.now in
+    let first = c.args.self.now in
+    let mid = c.self-2.inside.walk in
+    let new = c.advance-answer.new.self in
+    let there : numbered tables first.number ≡ Some table = subst (λ (n : ℕ). numbered tables n ≡ Some table) (ap (λ (s : TableWalk). s.number) c.self.view_is) c.table_of-table.ensures in
+    let block : mid.block ≡ first.walk.block = ap (λ (s : TableWalk). s.walk.block) c.self-2.view_is ∙ c.pass_over.ensures.block in
+    record {
+      number = ap (λ (s : TableWalk). s.number) c.self-2.view_is ∙ c.pass_over.ensures.number;
+      onward = omega (arith, block, c.advance-answer.ensures.onward);
+      sound = blocks_of (numbered tables first.number) table image first.walk.block new.block there
+          (λ n low high. subst (λ (h : Image). IsSoundBlock table n h) c.pass_over.ensures.moves.held (c.advance-answer.ensures.sound n t (omega (arith, low, block)) high));
+    }
+
+-- where no block was read, none is wanted
+pub returns-then-not-pass_over-clause-done : goal.returns-then-not-pass_over-clause-done
+returns-then-not-pass_over-clause-done g c none =
+    let tables = c.args.tables.now.tables in
+    let table = c.table_of-table.result.now in
+    let there : numbered tables c.args.self.now.number ≡ Some table = subst (λ (n : ℕ). numbered tables n ≡ Some table) (ap (λ (s : TableWalk). s.number) c.self.view_is) c.table_of-table.ensures in
+    wants_of c.args.floor.now tables table c.pass_over.new.self (ap (numbered tables) c.pass_over.ensures.number ∙ there)
+    ∙ ap ones (sym c.pass_over.ensures.wanted ∙ c.if-not-pass_over.true)
+
+pub returns-then-not-pass_over-clause-read_all : goal.returns-then-not-pass_over-clause-read_all
+returns-then-not-pass_over-clause-read_all g c none ends =
+    let tables = c.args.tables.now.tables in
+    let table = c.table_of-table.result.now in
+    let new = c.pass_over.new.self in
+    let there : numbered tables c.args.self.now.number ≡ Some table = subst (λ (n : ℕ). numbered tables n ≡ Some table) (ap (λ (s : TableWalk). s.number) c.self.view_is) c.table_of-table.ensures in
+    subst (λ (o : Option Opened). row_count o ≤ new.walk.block) (sym (ap (numbered tables) c.pass_over.ensures.number ∙ there)) (c.pass_over.ensures.read_all c.if-not-pass_over.true ends)

@@ -1,6 +1,6 @@
-use Rattle.std.proofs.Common.{◌≡◌, ◌∙◌, ℕ, refl, sym, ap, subst}
+use Rattle.std.proofs.Common.{◌≡◌, ◌≤◌, ◌∙◌, ℕ, refl, sym, ap, subst}
 use Rattle.std.specs.Prelude.{Option, Some}
-use Rattle.merge_rows.specs.Merges.{TableWalk, blocks_in, numbered, with_hand}
+use Rattle.merge_rows.specs.Merges.{TableWalk, blocks_in, numbered, row_count, with_hand}
 use Rattle.merge_rows.specs.Reads.{ones}
 use Rattle.merge_rows.specs.Steps.{IsCaughtUp, IsSoundWalk}
 use Rattle.table_file.specs.Opened.{Opened}
@@ -50,3 +50,11 @@ returns-clause-ready g c t none =
     let there : numbered tables c.args.self.now.number ≡ Some table = subst (λ (n : ℕ). numbered tables n ≡ Some table) (ap (λ (s : TableWalk). s.number) c.self.view_is) c.table_of-table.ensures in
     subst (λ (o : Option Opened). IsCaughtUp c.args.floor.now new.walk.now (with_hand new.walk.now (to_come new.walk (blocks_in o held))))
     (sym (ap (numbered tables) c.pass_over.ensures.number ∙ there)) (c.pass_over.ensures.ready t none)
+
+pub returns-clause-read_all : goal.returns-clause-read_all
+returns-clause-read_all g c none ends =
+    let tables = c.args.tables.now.tables in
+    let table = c.table_of-table.result.now in
+    let new = c.pass_over.new.self in
+    let there : numbered tables c.args.self.now.number ≡ Some table = subst (λ (n : ℕ). numbered tables n ≡ Some table) (ap (λ (s : TableWalk). s.number) c.self.view_is) c.table_of-table.ensures in
+    subst (λ (o : Option Opened). row_count o ≤ new.walk.block) (sym (ap (numbered tables) c.pass_over.ensures.number ∙ there)) (c.pass_over.ensures.read_all none ends)

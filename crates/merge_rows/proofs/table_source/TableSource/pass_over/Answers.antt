@@ -8,6 +8,7 @@ use Rattle.merge_rows.specs.Rows.{above_floor}
 use Rattle.merge_rows.specs.Steps.{IsSoundWalk}
 use Rattle.table_file.specs.Walks.{CursorWalk, HandsOut, blocks_on, is_due, to_come}
 use Rattle.merge_rows.proofs.LeadOrder.{lead_ended}
+use Rattle.merge_rows.proofs.SoundPasses.{above_has}
 use Rattle.merge_rows.proofs.Steps.{caught_none, moved_walk, none_of, passed_all, passed_moved, passed_same, passed_sound, used_of, walk_ended}
 use Rattle.merge_rows.proofs.table_source.TableSource.pass_over.Goals as goal
 
@@ -63,3 +64,11 @@ returns-in-Ok-false-clause-ready g c t wants =
 
 pub invariant_of-self-in-Ok-false : goal.invariant_of-self-in-Ok-false
 invariant_of-self-in-Ok-false g c = lead_ended c.advance.new.self.now (none_of c.advance.new.self.now (sym c.in-Ok-false.ensures.said ∙ c.in-Ok-false.field-0-test))
+
+-- ---- where no entry is at hand, all blocks were read
+
+pub returns-in-Ok-false-clause-read_all : goal.returns-in-Ok-false-clause-read_all
+returns-in-Ok-false-clause-read_all g c wants none = (c.in-Ok-false.ensures.ends c.in-Ok-false.field-0-test).0
+
+pub returns-clause-read_all : goal.returns-clause-read_all
+returns-clause-read_all g c wants none = absurd (above_has c.args.floor.now c.loop-self.self.walk.now c.loop-self-test.ensures none)
