@@ -5,6 +5,7 @@ pub mod Choices
 pub mod OutputLists
 pub mod Floors
 pub mod Reading
+pub mod BlocksPassed
 pub mod RowsTaken
 pub mod Flushed
 pub mod OtherImages

@@ -1,6 +1,6 @@
 -- Reads of a merge, one behind the other, and their faults.
 use Rattle.std.proofs.Common.{◌≡◌, ◌∙◌, ◌+◌, ◌*◌, ◌-◌, ◌<◌, ◌≤◌, ℕ, List, refl, ap, subst, arith}
-use Rattle.std.specs.Prelude.{Bool, true, false, IsTrue, Result, Ok, Err, nat_lt}
+use Rattle.std.specs.Prelude.{Bool, true, false, IsTrue, Result, Err, nat_lt}
 use Rattle.std.proofs.lemmas.Bool.{ltb-true}
 use Rattle.block_model.specs.Places.{byte_of_page}
 use Rattle.disk_trait.specs.Image.{Image}
@@ -104,10 +104,6 @@ all_twice blocks left a b reads = reads_more (2 * (blocks - left)) (2 * blocks) 
 -- where a read failed, one was wanted
 pub one_wanted : {E : Type 0} (result : Result Bool E) (why : E) (old new : ℕ) → result ≡ Err why → IsFewer result old new → 1 ≤ old
 one_wanted {E} result why old new is fewer = subst (λ (r : Result Bool E). IsFewer r old new) is fewer
-
--- where none was read, none is wanted
-pub none_wanted : {E : Type 0} (result : Result Bool E) (old new : ℕ) → result ≡ Ok false → IsFewer result old new → new ≡ 0
-none_wanted {E} result old new is fewer = (subst (λ (r : Result Bool E). IsFewer r old new) is fewer).0
 
 -- a block was read in one of two steps
 pub some_then : (blocks left rest first old new : ℕ) → rest ≤ left → old ≤ first → new ≤ old → (left < blocks → old < first) → (rest < left → new < old) → rest < blocks → new < first

@@ -10,15 +10,16 @@ use Rattle.byte_fields.specs.declared.parts.Row.{Row}
 use Rattle.level_merge.specs.Making.{MakesAnyOutputs}
 use Rattle.level_merge.specs.JobValue.{JobValue, is_full}
 use Rattle.level_merge.specs.Outputs.{IsCloseFault}
-use Rattle.level_merge.specs.SliceSteps.{Closes, FailsBeforeWrite, HasNoRoom, IsTakeFault, MayMakeAsMany, SaysWhatIsLeft, SliceMoves, WritesOutput, need_of}
+use Rattle.level_merge.specs.SliceSteps.{Closes, FailsBeforeWrite, HasNoRoom, IsTakeFault, MayMakeAsMany, PassesBlocks, ReadyAtEnd, SaysWhatIsLeft, SliceMoves, WritesOutput, need_of}
 use Rattle.level_merge.specs.SliceContract.{SliceContract}
 use Rattle.level_merge.specs.declared.fault.JobFault.{JobFault}
 use Rattle.level_merge.specs.declared.fault.JobFault.TheVariants as fault
 use Rattle.level_merge.specs.declared.fault.Sliced.{Sliced}
 use Rattle.level_merge.specs.declared.fault.Sliced.TheVariants as sliced
 use Rattle.level_merge.proofs.SliceMoves.{closing_ends, fault_of_close, fault_of_take, moves_then, reads_end, slice_reads, slice_writes, still_bounded, within_last, within_none, within_one, within_same, written_one, written_same}
+use Rattle.merge_rows.proofs.SoundPasses.{pass_alike, pass_then}
 use Rattle.merge_rows.specs.Merges.{Merge}
-use Rattle.merge_rows.specs.Reads.{OnlyReads, blocks_left}
+use Rattle.merge_rows.specs.Reads.{AreAtEnd, OnlyReads, PassSound, blocks_left, next_numbers}
 use Rattle.merge_rows.specs.Steps.{IsSoundMerge, numbers, stands}
 use Rattle.table_file.specs.Opened.{Opened}
 use Rattle.table_model.specs.Tables.{filter_bytes_of, table_pages}
@@ -63,7 +64,8 @@ room_of_close spelling built_cutoff settings own built free here after same some
 module _ (spelling : Spelling) (built_cutoff : ℕ → List Leaf → ℕ) (tells : Bool) (blocks : ℕ) (opened : List Opened) (old mid : JobValue) (free : Taken) (before here : World)
     (rest : mid ≡ record old { merge = mid.merge; built = mid.built }) (reads : OnlyReads before here) (level : (1 ≤ old.output) × (old.output ≤ 6))
     (walks : numbers mid.merge.walks ≡ numbers old.merge.walks) (stood : stands mid.merge.walks ≡ stands old.merge.walks) (twice : ReadMoves (2 * blocks) before here)
-    (bounded : IsTrue tells → IsSoundMerge old.merge opened before.seen.held → ReadMoves blocks before here) where
+    (bounded : IsTrue tells → IsSoundMerge old.merge opened before.seen.held → ReadMoves blocks before here)
+    (passes : PassesBlocks tells opened before.seen.held blocks old.merge.walks mid.merge.walks) where
   same_output : mid.output ≡ old.output
   same_output = ap (λ (m : JobValue). m.output) rest
 
@@ -85,6 +87,8 @@ module _ (spelling : Spelling) (built_cutoff : ℕ → List Leaf → ℕ) (tells
     twice = twice.reads;
     ends = λ _. reads_end opened old mid mid rest fewer less;
     more = inl some;
+    passes = passes.sound;
+    done = tt;
     level = level_of mid.output same_output;
     same = (same_output, same_settings);
     numbers_are = walks;
@@ -97,15 +101,17 @@ module _ (spelling : Spelling) (built_cutoff : ℕ → List Leaf → ℕ) (tells
     no_room = tt;
   }
 
-  pub had_nothing : blocks_left opened mid.merge.walks ≤ blocks_left opened old.merge.walks → mid.built ≡ []
+  pub had_nothing : blocks_left opened mid.merge.walks ≤ blocks_left opened old.merge.walks → mid.built ≡ [] → AreAtEnd opened mid.merge.walks
       → (IsTrue tells → MakesAnyOutputs spelling (filter_bytes_of spelling built_cutoff) opened old mid free free (Ok sliced.Ready) before here)
       → SliceContract spelling built_cutoff tells blocks opened old mid free free (Ok sliced.Ready) before here
-  had_nothing fewer empty makes = record {
+  had_nothing fewer empty at_end makes = record {
     makes = makes;
     bounded = λ t sound. (bounded t sound).reads;
     twice = twice.reads;
     ends = λ is. absurd (ready_is_none is);
     more = empty;
+    passes = passes.sound;
+    done = at_end;
     level = level_of mid.output same_output;
     same = (same_output, same_settings);
     numbers_are = walks;
@@ -127,6 +133,8 @@ module _ (spelling : Spelling) (built_cutoff : ℕ → List Leaf → ℕ) (tells
     twice = twice.reads;
     ends = tt;
     more = tt;
+    passes = passes.sound;
+    done = tt;
     level = level_of mid.output same_output;
     same = (same_output, same_settings);
     numbers_are = walks;
@@ -146,6 +154,9 @@ module _ (spelling : Spelling) (built_cutoff : ℕ → List Leaf → ℕ) (tells
     walks_on : numbers new.merge.walks ≡ numbers old.merge.walks
     walks_on = ap (λ (m : Merge). numbers m.walks) merge ∙ walks
 
+    passes_on : IsTrue tells → PassSound opened before.seen.held old.merge.walks new.merge.walks
+    passes_on t = subst (λ (m : Merge). PassSound opened before.seen.held old.merge.walks m.walks) (sym merge) (passes.sound t)
+
     bounded_on : IsTrue tells → IsSoundMerge old.merge opened before.seen.held → after.seen.reads ≤ before.seen.reads + blocks
     bounded_on t sound = still_bounded spelling built_cutoff mid new free extents here after (before.seen.reads + blocks) (bounded t sound).reads writes
 
@@ -154,7 +165,11 @@ module _ (spelling : Spelling) (built_cutoff : ℕ → List Leaf → ℕ) (tells
 
     -- behind it rows were taken that want no block
     module _ (last : JobValue) (end : World) (rest_on : last ≡ record new { merge = last.merge; built = last.built }) (walks_last : numbers last.merge.walks ≡ numbers new.merge.walks)
-        (stood_last : stands last.merge.walks ≡ stands new.merge.walks) (still : ReadMoves 0 after end) where
+        (stood_last : stands last.merge.walks ≡ stands new.merge.walks) (still : ReadMoves 0 after end)
+        (stays : IsTrue tells → next_numbers last.merge.walks ≡ next_numbers new.merge.walks) where
+      passes_last : IsTrue tells → PassSound opened before.seen.held old.merge.walks last.merge.walks
+      passes_last t = pass_then opened before.seen.held old.merge.walks new.merge.walks last.merge.walks (passes_on t) (pass_alike opened before.seen.held new.merge.walks last.merge.walks walks_last (stays t))
+
       bounded_last : IsTrue tells → IsSoundMerge old.merge opened before.seen.held → end.seen.reads ≤ before.seen.reads + blocks
       bounded_last t sound = let most = bounded_on t sound in let none = still.reads in omega (arith, most, none)
 
@@ -175,10 +190,10 @@ module _ (spelling : Spelling) (built_cutoff : ℕ → List Leaf → ℕ) (tells
           (slice_writes spelling built_cutoff old mid new free extents before here after rest reads writes)
 
       pub closed_then : (row : Row) → Closes spelling built_cutoff mid new free extents row → blocks_left opened mid.merge.walks ≤ blocks_left opened old.merge.walks → is_full mid.beside mid.built ≡ true
-          → blocks_left opened last.merge.walks ≤ blocks_left opened new.merge.walks → (said : Sliced) → SaysWhatIsLeft opened last said
+          → blocks_left opened last.merge.walks ≤ blocks_left opened new.merge.walks → (said : Sliced) → SaysWhatIsLeft opened last said → ReadyAtEnd opened last said
           → (IsTrue tells → MakesAnyOutputs spelling (filter_bytes_of spelling built_cutoff) opened old last free extents (Ok said) before end)
           → SliceContract spelling built_cutoff tells blocks opened old last free extents (Ok said) before end
-      closed_then row closes fewer full fewer_on said left makes = record {
+      closed_then row closes fewer full fewer_on said left at_end makes = record {
         makes = makes;
         bounded = bounded_last;
         twice = twice_last;
@@ -187,6 +202,8 @@ module _ (spelling : Spelling) (built_cutoff : ℕ → List Leaf → ℕ) (tells
             let beside = ap (λ (m : JobValue). m.beside) rest_on in
             omega (arith, less, beside, fewer_on);
         more = left;
+        passes = passes_last;
+        done = at_end;
         level = level_last;
         same = same_last;
         numbers_are = walks_last ∙ walks_on;
@@ -211,6 +228,8 @@ module _ (spelling : Spelling) (built_cutoff : ℕ → List Leaf → ℕ) (tells
         twice = twice_last;
         ends = tt;
         more = tt;
+        passes = passes_last;
+        done = tt;
         level = level_last;
         same = same_last;
         numbers_are = walks_last ∙ walks_on;
@@ -223,15 +242,17 @@ module _ (spelling : Spelling) (built_cutoff : ℕ → List Leaf → ℕ) (tells
         no_room = tt;
       })
 
-    pub closed_last : (row : Row) → Closes spelling built_cutoff mid new free extents row → blocks_left opened mid.merge.walks ≤ blocks_left opened old.merge.walks
+    pub closed_last : (row : Row) → Closes spelling built_cutoff mid new free extents row → blocks_left opened mid.merge.walks ≤ blocks_left opened old.merge.walks → AreAtEnd opened mid.merge.walks
         → (IsTrue tells → MakesAnyOutputs spelling (filter_bytes_of spelling built_cutoff) opened old new free extents (Ok sliced.Ready) before after)
         → SliceContract spelling built_cutoff tells blocks opened old new free extents (Ok sliced.Ready) before after
-    closed_last row closes fewer makes = record {
+    closed_last row closes fewer at_end makes = record {
       makes = makes;
       bounded = bounded_on;
       twice = twice_on;
       ends = λ is. absurd (ready_is_none is);
       more = ap (λ (m : JobValue). m.built) closes.new_is;
+      passes = passes_on;
+      done = subst (λ (m : Merge). AreAtEnd opened m.walks) (sym merge) at_end;
       level = level_of new.output (same.0 ∙ same_output);
       same = (same.0 ∙ same_output, same.1 ∙ same_settings);
       numbers_are = walks_on;
@@ -253,6 +274,8 @@ module _ (spelling : Spelling) (built_cutoff : ℕ → List Leaf → ℕ) (tells
       twice = twice_on;
       ends = tt;
       more = tt;
+      passes = passes_on;
+      done = tt;
       level = level_of new.output (same.0 ∙ same_output);
       same = (same.0 ∙ same_output, same.1 ∙ same_settings);
       numbers_are = walks_on;

@@ -7,10 +7,11 @@ use Rattle.filter_api.specs.Spellings.{Spelling}
 use Rattle.filter_model.specs.Leaves.{Leaf}
 use Rattle.level_merge.specs.Making.{MakesAnyOutputs}
 use Rattle.level_merge.specs.JobValue.{AreAllWritten, JobValue, work_left}
-use Rattle.level_merge.specs.SliceSteps.{FailsBeforeWrite, HasNoRoom, IsSliceFault, MayMakeAsMany, SaysWhatIsLeft, SliceMoves}
+use Rattle.level_merge.specs.SliceSteps.{FailsBeforeWrite, HasNoRoom, IsSliceFault, MayMakeAsMany, ReadyAtEnd, SaysWhatIsLeft, SliceMoves}
 use Rattle.level_merge.specs.declared.fault.JobFault.{JobFault}
 use Rattle.level_merge.specs.declared.fault.Sliced.{Sliced}
 use Rattle.level_merge.specs.declared.fault.Sliced.TheVariants.{Working}
+use Rattle.merge_rows.specs.Reads.{PassSound}
 use Rattle.merge_rows.specs.Steps.{IsSoundMerge, numbers, stands}
 use Rattle.table_file.specs.Opened.{Opened}
 use Rattle.table_model.specs.Tables.{filter_bytes_of}
@@ -27,6 +28,9 @@ pub record SliceContract (spelling : Spelling) (built_cutoff : ℕ → List Leaf
   pub ends : IfOk result (λ sliced. sliced ≡ Working → work_left opened new < work_left opened old)
   -- and where it is said that something is left, something is
   pub more : IfOk result (SaysWhatIsLeft opened new)
+  -- each block that was passed is sound, whatever the others are; and where nothing is left, no block was left out
+  pub passes : IsTrue tells → PassSound opened before.seen.held old.merge.walks new.merge.walks
+  pub done : IfOk result (ReadyAtEnd opened new)
   pub level : (1 ≤ new.output) × (new.output ≤ max_level)
   pub same : (new.output ≡ old.output) × (new.settings ≡ old.settings)
   pub numbers_are : numbers new.merge.walks ≡ numbers old.merge.walks

@@ -24,8 +24,8 @@ use Rattle.level_merge.specs.declared.fault.Sliced.{Sliced}
 use Rattle.level_merge.specs.declared.fault.Sliced.TheVariants as sliced
 use Rattle.level_merge.specs.declared.taking.Stop.{Stop}
 use Rattle.level_merge.specs.declared.taking.Stop.TheVariants as stop
-use Rattle.merge_rows.specs.Merges.{Merge, merged_left, rows_left}
-use Rattle.merge_rows.specs.Reads.{OnlyReads, SomeBlock, blocks_left}
+use Rattle.merge_rows.specs.Merges.{Merge, TableWalk, merged_left, rows_left}
+use Rattle.merge_rows.specs.Reads.{AreAtEnd, OnlyReads, PassSound, SomeBlock, blocks_left, next_numbers}
 use Rattle.merge_rows.specs.Steps.{IsSoundMerge, SourcesStay}
 use Rattle.state_model.specs.Merges.{lasting}
 use Rattle.table_file.specs.Faults.{IsBlockDamage}
@@ -54,6 +54,17 @@ abbrev pub IsStop : Bool → ℕ → List Opened → Image → ℕ → Merge →
 IsStop tells blocks tables image beside old new built stop.Blocks = (0 < blocks → blocks_left tables new.walks < blocks_left tables old.walks) × (1 ≤ blocks_left tables new.walks)
 IsStop tells blocks tables image beside old new built stop.Full = is_full beside built ≡ true
 IsStop tells blocks tables image beside old new built stop.End = IsTrue tells → IsSoundMerge old tables image → rows_left new tables image ≡ []
+
+-- Where no row is left each walk is at its end: no block was left out.
+abbrev pub StopsAtEnd : List Opened → Merge → Stop → Type 0
+StopsAtEnd tables m stop.Blocks = Unit {0}
+StopsAtEnd tables m stop.Full = Unit {0}
+StopsAtEnd tables m stop.End = AreAtEnd tables m.walks
+
+-- Each block that was passed is sound, whatever the others are; and where none may be read, none was passed.
+pub record PassesBlocks (tells : Bool) (tables : List Opened) (image : Image) (blocks : ℕ) (old new : List TableWalk) : Type 0 where
+  pub sound : IsTrue tells → PassSound tables image old new
+  pub none : blocks ≡ 0 → IsTrue tells → next_numbers new ≡ next_numbers old
 
 -- Rows went from a merge into an output, and the same outputs are still made, where so many may come beside it.
 pub record FillsOutput (tells : Bool) (tables : List Opened) (image : Image) (beside : ℕ) (drops : Bool) (old new : Merge) (before after : List Entry) : Type 0 where
@@ -143,6 +154,11 @@ SaysWhatIsLeft opened m sliced.Ready = m.built ≡ []
 abbrev pub LooksOn : Bool → List Opened → Image → JobValue → JobValue → Sliced → Type 0
 LooksOn tells opened image old new sliced.Working = SaysWhatIsLeft opened new sliced.Working
 LooksOn tells opened image old new sliced.Ready = (new.built ≡ []) × (IsTrue tells → IsSoundMerge old.merge opened image → rows_left new.merge opened image ≡ [])
+
+-- where nothing is left, each walk is at its end
+abbrev pub ReadyAtEnd : List Opened → JobValue → Sliced → Type 0
+ReadyAtEnd opened m sliced.Working = Unit {0}
+ReadyAtEnd opened m sliced.Ready = AreAtEnd opened m.merge.walks
 
 -- a fault of the reads or of the writes
 abbrev pub IsSliceFault : Bool → List Opened → List ℕ → World → World → JobFault → Type 0

@@ -9,12 +9,12 @@ ghost use Rattle.level_merge.specs.Follows.{FollowsAnyJob};
 ghost use Rattle.level_merge.specs.TablesAgree.{TableAgrees};
 ghost use Rattle.level_merge.specs.JobValue.{begun, compaction, merge_of};
 ghost use Rattle.level_merge.specs.Plans.{MayStart};
-ghost use Rattle.level_merge.specs.SliceSteps.{Closes, IsStop, IsTakeFault, LooksOn, TakesRows, WritesOutput, made_opened, made_table, need_of};
+ghost use Rattle.level_merge.specs.SliceSteps.{Closes, IsStop, IsTakeFault, LooksOn, PassesBlocks, ReadyAtEnd, StopsAtEnd, TakesRows, WritesOutput, made_opened, made_table, need_of};
 ghost use Rattle.level_merge.specs.SliceContract.{SliceContract};
 ghost use Rattle.level_merge.specs.Outputs.{IsCloseFault, last_row};
 ghost use Rattle.key_base.specs.Limits.{max_level, max_tables};
 ghost use Rattle.level_merge.specs.declared.fault.JobFault.TheVariants.{Memory};
-ghost use Rattle.merge_rows.specs.Reads.{OnlyReads, blocks_left};
+ghost use Rattle.merge_rows.specs.Reads.{OnlyReads, blocks_left, next_numbers};
 ghost use Rattle.merge_rows.specs.Steps.{AreNumbersIn, AreWalksIn, IsSoundMerge, numbers, stands};
 ghost use Rattle.table_model.specs.Tables.{filter_bytes_of};
 
@@ -148,7 +148,8 @@ impl<'m, F: RangeFilter> Job<'m, F> {
 
     /// Goes on with the merge: reads at most so many blocks, one or more, and on a device whose tables do not stand at most
     /// twice as many; and writes an output where one is full, or where no row is left. `Ready` exactly where then nothing is
-    /// left: rows that want no block are taken on.
+    /// left: rows that want no block are taken on. Each block that was passed is sound, and where nothing is left none was left
+    /// out.
     pub fn slice<D: Disk>(
         &mut self,
         disk: &mut D,
@@ -238,6 +239,8 @@ impl<'m, F: RangeFilter> Job<'m, F> {
         ensures rest { self.new ≡ record self.old { merge = self.new.merge; built = self.new.built } }
         ensures taken { OnOk result (TakesRows D.tells tables.now.tables (D.world disk.old).seen.held self.old self.new) }
         ensures said { IfOk result (LooksOn D.tells tables.now.tables (D.world disk.old).seen.held self.old self.new) }
+        ensures ended { IfOk result (ReadyAtEnd tables.now.tables self.new) }
+        ensures still { IsTrue D.tells → next_numbers self.new.merge.walks ≡ next_numbers self.old.merge.walks }
         ensures memory { IfErr result (λ why. why ≡ Memory) }
         ensures moves { ReadMoves 0 (D.world disk.old) (D.world disk.new) }
     {
@@ -270,6 +273,8 @@ impl<'m, F: RangeFilter> Job<'m, F> {
         ensures rest { self.new ≡ record self.old { merge = self.new.merge; built = self.new.built } }
         ensures taken { OnOk result (TakesRows D.tells tables.now.tables (D.world disk.old).seen.held self.old self.new) }
         ensures stop { IfOk result (IsStop D.tells blocks tables.now.tables (D.world disk.old).seen.held self.old.beside self.old.merge self.new.merge self.new.built) }
+        ensures ended { IfOk result (StopsAtEnd tables.now.tables self.new.merge) }
+        ensures passes { PassesBlocks D.tells tables.now.tables (D.world disk.old).seen.held blocks self.old.merge.walks self.new.merge.walks }
         ensures fault { IfErr result (IsTakeFault D.tells tables.now.tables (numbers self.old.merge.walks) (D.world disk.old) (D.world disk.new)) }
         ensures unread { blocks ≡ 0 → IfErr result (λ why. why ≡ Memory) }
         ensures met { IsTrue D.tells → IsSoundMerge self.old.merge tables.now.tables (D.world disk.old).seen.held → IfErr result (λ why. why ≢ Memory → 1 ≤ blocks_left tables.now.tables self.old.merge.walks) }

@@ -4,9 +4,9 @@ ghost use Rattle.block_model.specs.Order.{Follow, is_any};
 ghost use Rattle.disk_trait.specs.World.{ReadMoves};
 ghost use Rattle.entry_model.specs.Entries.{IsEntry, keys_of};
 ghost use Rattle.level_merge.specs.JobValue.{IsBuilding, at_hand, is_full};
-ghost use Rattle.level_merge.specs.SliceSteps.{FillsOutput, IsStop, IsTakeFault, KeepsRows, left_of};
+ghost use Rattle.level_merge.specs.SliceSteps.{FillsOutput, IsStop, IsTakeFault, KeepsRows, PassesBlocks, StopsAtEnd, left_of};
 ghost use Rattle.level_merge.specs.declared.fault.JobFault.TheVariants.{Memory};
-ghost use Rattle.merge_rows.specs.Reads.{OnlyReads, blocks_left, wanted};
+ghost use Rattle.merge_rows.specs.Reads.{HaveReadAll, OnlyReads, blocks_left, wanted};
 ghost use Rattle.merge_rows.specs.Steps.{AreCaughtUp, AreHeadsClear, AreWalksIn, IsSoundMerge, SourcesStay, numbers, stands};
 ghost use Rattle.state_model.specs.Merges.{lasting};
 
@@ -47,6 +47,8 @@ pub(crate) fn take_rows<'m, F: RangeFilter, D: Disk>(
     ensures settings { built.new.settings ≡ built.old.settings }
     ensures taken { OnOk result (FillsOutput D.tells tables.now.tables (D.world disk.old).seen.held beside drops rows.old rows.new built.old.entries built.new.entries) }
     ensures stop { IfOk result (IsStop D.tells blocks tables.now.tables (D.world disk.old).seen.held beside rows.old rows.new built.new.entries) }
+    ensures ended { IfOk result (StopsAtEnd tables.now.tables rows.new) }
+    ensures passes { PassesBlocks D.tells tables.now.tables (D.world disk.old).seen.held blocks rows.old.walks rows.new.walks }
     ensures fault { IfErr result (IsTakeFault D.tells tables.now.tables (numbers rows.old.walks) (D.world disk.old) (D.world disk.new)) }
     ensures unread { blocks ≡ 0 → IfErr result (λ why. why ≡ Memory) }
     ensures met { IsTrue D.tells → IsSoundMerge rows.old tables.now.tables (D.world disk.old).seen.held → IfErr result (λ why. why ≢ Memory → 1 ≤ blocks_left tables.now.tables rows.old.walks) }
@@ -90,7 +92,9 @@ fn read_ahead<'m, F: RangeFilter, D: Disk>(
     ensures fewer { OnOk result (blocks_left tables.now.tables rows.new.walks ≤ blocks_left tables.now.tables rows.old.walks) }
     ensures some { IfOk result (λ ahead. left_of ahead < blocks → blocks_left tables.now.tables rows.new.walks < blocks_left tables.now.tables rows.old.walks) }
     ensures more { IfOk result (λ ahead. ahead ≡ None → 1 ≤ blocks_left tables.now.tables rows.new.walks) }
-    ensures none_wanted { IsTrue D.tells → IsSoundMerge rows.old tables.now.tables (D.world disk.old).seen.held → IfOk result (λ ahead. is_some ahead ≡ true → wanted rows.new tables.now.tables ≡ 0) }
+    ensures none_wanted { IfOk result (λ ahead. is_some ahead ≡ true → wanted rows.new tables.now.tables ≡ 0) }
+    ensures read_all { IfOk result (λ ahead. is_some ahead ≡ true → HaveReadAll tables.now.tables rows.new.walks) }
+    ensures passes { PassesBlocks D.tells tables.now.tables (D.world disk.old).seen.held blocks rows.old.walks rows.new.walks }
     ensures heads_pass { IfOk result (λ ahead. is_some ahead ≡ true → AreHeadsClear rows.new.floor rows.new.walks) }
     ensures caught_up { IsTrue D.tells → IfOk result (λ ahead. is_some ahead ≡ true → AreCaughtUp rows.new.floor tables.now.tables (D.world disk.old).seen.held rows.new.walks) }
     ensures fault { IfErr result (IsTakeFault D.tells tables.now.tables (numbers rows.old.walks) (D.world disk.old) (D.world disk.new)) }

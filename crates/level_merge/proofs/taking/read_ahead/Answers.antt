@@ -3,13 +3,29 @@ use Rattle.std.specs.Prelude.{Ok}
 use Rattle.std.proofs.lemmas.Bool.{false≢true}
 use Rattle.disk_trait.specs.Image.{Image}
 use Rattle.disk_trait.specs.World.{ReadMoves}
+use Rattle.disk_trait.proofs.Calls.{reads_none}
 use Rattle.merge_rows.specs.Reads.{IsFewer, blocks_left, wanted}
 use Rattle.merge_rows.specs.Rows.{KeyFloor}
 use Rattle.merge_rows.specs.Steps.{AreCaughtUp, AreHeadsClear, IsSoundMerge, StaysAt, numbers}
 use Rattle.merge_rows.proofs.Stays.{only_then, read_none, read_one}
 use Rattle.merge_rows.proofs.WantedLeft.{wanted_left}
-use Rattle.level_merge.proofs.Reading.{all_twice, kept_then, later_fault, none_more, none_twice, none_wanted, one_more, one_twice, one_wanted, read_fault, then_twice, within_all}
+use Rattle.level_merge.proofs.BlocksPassed.{passes_none, passes_read, passes_still}
+use Rattle.level_merge.proofs.Reading.{all_twice, kept_none, kept_then, later_fault, none_more, none_twice, one_more, one_twice, one_wanted, read_fault, then_twice, within_all}
 use Rattle.level_merge.proofs.taking.read_ahead.Goals as goal
+
+pub loop-left-init : goal.loop-left-init
+loop-left-init g c =
+    let before = g.D.Disk.world c.args.disk.now in
+    record {
+      kept = kept_none g.D.Disk.tells c.args.tables.now.tables before.seen.held c.args.rows.now;
+      within = omega arith;
+      fewer = omega arith;
+      some = λ less. absurd (omega (arith, less));
+      passes = passes_none g.D.Disk.tells c.args.tables.now.tables before.seen.held c.args.blocks c.args.rows.now.walks;
+      moves = (0, reads_none 0 before);
+      paced = reads_none (2 * (c.args.blocks - c.args.blocks)) before;
+      counted = λ t s. reads_none (c.args.blocks - c.args.blocks) before;
+    }
 
 pub loop-left-preserved : goal.loop-left-preserved
 loop-left-preserved g c =
@@ -28,6 +44,7 @@ loop-left-preserved g c =
       within = omega (arith, from.within);
       fewer = omega (arith, less, from.fewer);
       some = λ _. omega (arith, less, from.fewer);
+      passes = passes_read g.D.Disk.tells tables before.seen.held c.args.blocks mid.seen.held c.args.rows.now.walks old.walks new.walks held from.passes (omega (arith, c.loop-left-test.true, from.within)) c.fill.ensures.read_sound;
       moves = only_then 2 before mid after from.moves c.fill.ensures.moves;
       paced = one_twice c.args.blocks c.loop-left.left before mid after (omega (arith, c.loop-left-test.true)) from.within from.paced c.fill.ensures.moves;
       counted = λ t s.
@@ -62,14 +79,16 @@ returns-in-Ok-false-clause-some g c less =
     omega (arith, same, fell)
 
 pub returns-in-Ok-false-clause-none_wanted : goal.returns-in-Ok-false-clause-none_wanted
-returns-in-Ok-false-clause-none_wanted g c t s less =
-    let tables = c.args.tables.now.tables in
-    let old = c.loop-left.rows in
-    let new = c.fill.new.self in
+returns-in-Ok-false-clause-none_wanted g c some = c.in-Ok-false.ensures.done c.in-Ok-false.field-0-test
+
+pub returns-in-Ok-false-clause-read_all : goal.returns-in-Ok-false-clause-read_all
+returns-in-Ok-false-clause-read_all g c some = c.in-Ok-false.ensures.read_all c.in-Ok-false.field-0-test
+
+pub returns-in-Ok-false-clause-passes : goal.returns-in-Ok-false-clause-passes
+returns-in-Ok-false-clause-passes g c =
     let from = c.loop-left.invariant in
-    let is : c.fill.result ≡ Ok false = c.in-Ok-false.is ∙ ap (λ (b : Bool). Ok b) c.in-Ok-false.field-0-test in
-    let once = subst (λ (h : Image). IsSoundMerge old tables h → IsFewer c.fill.result (wanted old tables) (wanted new tables)) from.moves.1.held (λ u. (c.fill.ensures.once t u).1) (from.kept.sources.sound t s) in
-    none_wanted c.fill.result (wanted old tables) (wanted new tables) is once
+    passes_read g.D.Disk.tells c.args.tables.now.tables (g.D.Disk.world c.args.disk.now).seen.held c.args.blocks (g.D.Disk.world c.loop-left.disk).seen.held c.args.rows.now.walks c.loop-left.rows.walks c.fill.new.self.walks
+    from.moves.1.held from.passes (omega (arith, c.loop-left-test.true, from.within)) c.fill.ensures.read_sound
 
 pub returns-in-Ok-false-clause-heads_pass : goal.returns-in-Ok-false-clause-heads_pass
 returns-in-Ok-false-clause-heads_pass g c less =
@@ -135,6 +154,12 @@ returns-in-Err-clause-fault g c =
     subst (λ why. Rattle.level_merge.specs.SliceSteps.IsTakeFault tells tables which before after why) (sym c.from.ensures)
     (later_fault tells tables now which before mid after _ c.loop-left.invariant.kept.sources.numbers_are c.loop-left.invariant.moves is)
 
+pub returns-in-Err-clause-passes : goal.returns-in-Err-clause-passes
+returns-in-Err-clause-passes g c =
+    let from = c.loop-left.invariant in
+    passes_read g.D.Disk.tells c.args.tables.now.tables (g.D.Disk.world c.args.disk.now).seen.held c.args.blocks (g.D.Disk.world c.loop-left.disk).seen.held c.args.rows.now.walks c.loop-left.rows.walks c.fill.new.self.walks
+    from.moves.1.held from.passes (omega (arith, c.loop-left-test.true, from.within)) c.fill.ensures.read_sound
+
 pub returns-in-Err-clause-met : goal.returns-in-Err-clause-met
 returns-in-Err-clause-met g c t s =
     let tables = c.args.tables.now.tables in
@@ -186,7 +211,9 @@ returns-then-wants_block g c =
       fewer = omega (arith, asks.left, from.fewer);
       some = λ less. let fell = from.some (omega (arith, none, less)) in omega (arith, asks.left, fell);
       more = λ _. wanted_left c.wants_block.new.self.floor tables c.wants_block.new.self.walks (asks.some c.if-wants_block.true);
-      none_wanted = λ t s some. absurd (false≢true some);
+      none_wanted = λ some. absurd (false≢true some);
+      read_all = λ some. absurd (false≢true some);
+      passes = passes_still tells tables before.seen.held c.args.blocks mid.seen.held c.args.rows.now.walks c.loop-left.rows.walks c.wants_block.new.self.walks from.moves.1.held from.passes asks.stays.sources.numbers_are asks.blocks;
       heads_pass = λ some. absurd (false≢true some);
       caught_up = λ t some. absurd (false≢true some);
       fault = tt;
@@ -220,7 +247,9 @@ returns g c =
       fewer = omega (arith, asks.left, from.fewer);
       some = λ less. let fell = from.some (omega (arith, none, less)) in omega (arith, asks.left, fell);
       more = λ is. absurd cc;
-      none_wanted = λ t s _. subst (λ (h : Image). IsSoundMerge old tables h → wanted new tables ≡ 0) held (λ u. asks.none t u c.if-wants_block.false) (from.kept.sources.sound t s);
+      none_wanted = λ _. asks.none c.if-wants_block.false;
+      read_all = λ _. asks.read_all c.if-wants_block.false;
+      passes = passes_still tells tables before.seen.held c.args.blocks mid.seen.held c.args.rows.now.walks old.walks new.walks held from.passes asks.stays.sources.numbers_are asks.blocks;
       heads_pass = λ _. subst (λ (f : KeyFloor). AreHeadsClear f new.walks) (sym asks.stays.floor_is) (asks.clear c.if-wants_block.false);
       caught_up = λ t _. subst (λ (f : KeyFloor). AreCaughtUp f tables before.seen.held new.walks) (sym asks.stays.floor_is)
           (subst (λ (h : Image). AreCaughtUp old.floor tables h new.walks) held (asks.ready t c.if-wants_block.false));

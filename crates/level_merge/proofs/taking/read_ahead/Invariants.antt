@@ -1,7 +1,7 @@
 use Rattle.std.proofs.Common.{◌<◌, ◌≤◌, ◌-◌, ◌*◌}
 use Rattle.std.specs.Prelude.{IsTrue}
 use Rattle.disk_trait.specs.World.{ReadMoves}
-use Rattle.level_merge.specs.SliceSteps.{KeepsRows}
+use Rattle.level_merge.specs.SliceSteps.{KeepsRows, PassesBlocks}
 use Rattle.merge_rows.specs.Reads.{OnlyReads, blocks_left}
 use Rattle.merge_rows.specs.Steps.{IsSoundMerge}
 use Rattle.level_merge.proofs.taking.read_ahead.Given as goal
@@ -18,6 +18,7 @@ invariant-loop-left g l =
       within : l.left ≤ l.blocks;
       fewer : blocks_left tables l.rows.walks ≤ blocks_left tables l.fn.rows.walks;
       some : l.left < l.blocks → blocks_left tables l.rows.walks < blocks_left tables l.fn.rows.walks;
+      passes : PassesBlocks tells tables before.seen.held l.blocks l.fn.rows.walks l.rows.walks;
       moves : OnlyReads before after;
       paced : ReadMoves (2 * (l.blocks - l.left)) before after;
       counted : IsTrue tells → IsSoundMerge l.fn.rows tables before.seen.held → ReadMoves (l.blocks - l.left) before after;

@@ -1,7 +1,8 @@
-use Rattle.std.proofs.Common.{rules, ◌≡◌, ◌<◌, ◌≤◌, ◌*◌, ◌-◌, ◌∙◌, ◌++◌, ℕ, Bool, List, true, false, sym, ap, subst, arith}
+use Rattle.std.proofs.Common.{rules, ◌≡◌, ◌<◌, ◌≤◌, ◌*◌, ◌-◌, ◌∙◌, ◌++◌, ℕ, Bool, List, true, false, refl, sym, ap, subst, arith}
 use Rattle.std.specs.Prelude.{IsTrue, Option, None, is_some}
 use Rattle.disk_trait.specs.World.{ReadMoves}
 use Rattle.disk_trait.specs.Image.{Image}
+use Rattle.disk_trait.proofs.Calls.{reads_none}
 use Rattle.entry_model.specs.Entries.{Entry}
 use Rattle.key_base.specs.Limits.{max_key_bytes}
 use Rattle.merge_rows.specs.Merges.{Merge}
@@ -12,9 +13,10 @@ use Rattle.merge_rows.proofs.Rank.{falls, key_of_entry}
 use Rattle.merge_rows.proofs.RowSteps.{rises_on}
 use Rattle.merge_rows.proofs.Stays.{only_both}
 use Rattle.level_merge.specs.JobValue.{IsBuilding, at_hand}
-use Rattle.level_merge.specs.SliceSteps.{FillsOutput, KeepsRows, left_of}
+use Rattle.level_merge.specs.SliceSteps.{FillsOutput, KeepsRows, PassesBlocks, left_of}
+use Rattle.level_merge.proofs.BlocksPassed.{passes_none, passes_then}
 use Rattle.level_merge.proofs.Reading.{both_twice, both_within, later_fault, some_then, then_twice}
-use Rattle.level_merge.proofs.RowsTaken.{building_more, building_rises, fills_last, fills_one, none_left, row_follows, stays_on}
+use Rattle.level_merge.proofs.RowsTaken.{building_more, building_rises, fills_last, fills_none, fills_one, none_left, row_follows, stays_on}
 use Rattle.state_model.specs.Merges.{lasting}
 use Rattle.table_file.specs.Building.{Built}
 use Rattle.table_file.specs.Opened.{Opened}
@@ -56,6 +58,23 @@ loop-rows-smaller g c =
     let passes = subst (λ (f : KeyFloor). RowPasses new.now f new.floor) c.read_ahead.ensures.kept.floor_is step.1.passes in
     falls max_key_bytes new.now c.loop-rows.rows.floor new.floor some passes (key_of_entry new.now c.advance_filled.ensures.sound)
 
+pub loop-rows-init : goal.loop-rows-init
+loop-rows-init g c =
+    let tables = c.args.tables.now.tables in
+    let before = g.D.Disk.world c.args.disk.now in
+    record {
+      stay = record { numbers_are = refl; stands_are = refl; drops_are = refl; sound = λ t s. s };
+      building = c.requires.begun;
+      settings = refl;
+      fills = fills_none g.D.Disk.tells tables before.seen.held c.args.beside c.args.drops c.args.rows.now c.args.built.now.entries;
+      within = omega arith;
+      passes = passes_none g.D.Disk.tells tables before.seen.held c.args.blocks c.args.rows.now.walks;
+      some = λ less. absurd (omega (arith, less));
+      moves = (0, reads_none 0 before);
+      paced = reads_none (2 * (c.args.blocks - c.args.blocks)) before;
+      counted = λ t s. reads_none (c.args.blocks - c.args.blocks) before;
+    }
+
 pub loop-rows-preserved : goal.loop-rows-preserved
 loop-rows-preserved g c =
     let tells = g.D.Disk.tells in
@@ -90,6 +109,8 @@ loop-rows-preserved g c =
       fills = subst (λ (es : List Entry). FillsOutput tells tables image c.args.beside c.args.drops first new begun es) (sym added)
           (fills_one tells tables image c.args.beside c.args.drops first old mid begun built from.stay from.fills kept read.fewer new step.0 step.1 left some (sym c.is_full.ensures ∙ c.loop-rows-test.true));
       within = omega (arith, within, from.within);
+      passes = subst (PassesBlocks tells tables image c.args.blocks first.walks) (sym c.advance_filled.ensures.walks)
+          (passes_then tells tables image c.args.blocks start.seen.held first.walks old.walks mid.walks held from.passes c.loop-rows.left from.within c.read_ahead.ensures.passes);
       some = some_then c.args.blocks c.loop-rows.left rest (blocks_left tables first.walks) (blocks_left tables old.walks) (blocks_left tables new.walks)
           within from.fills.fewer (let two = read.fewer in omega (arith, left, two)) from.some
           (λ fewer. let fell = subst (λ (o : Option ℕ). left_of o < c.loop-rows.left → blocks_left tables mid.walks < blocks_left tables old.walks) is read.some fewer in omega (arith, fell, left));
@@ -265,3 +286,36 @@ returns-in_err-add_row-clause-twice g c = then_twice c.args.blocks c.loop-rows.l
 pub returns-in_err-add_row-clause-moves : goal.returns-in_err-add_row-clause-moves
 returns-in_err-add_row-clause-moves g c =
     only_both (g.D.Disk.world c.args.disk.now) (g.D.Disk.world c.loop-rows.disk) (g.D.Disk.world c.read_ahead.new.disk) c.loop-rows.invariant.moves c.read_ahead.ensures.moves
+
+-- ---- what was passed is sound, and where no row is left no block was left out
+
+pub returns-in_err-ahead-clause-passes : goal.returns-in_err-ahead-clause-passes
+returns-in_err-ahead-clause-passes g c =
+    let from = c.loop-rows.invariant in
+    passes_then g.D.Disk.tells c.args.tables.now.tables (g.D.Disk.world c.args.disk.now).seen.held c.args.blocks (g.D.Disk.world c.loop-rows.disk).seen.held c.args.rows.now.walks c.loop-rows.rows.walks c.read_ahead.new.rows.walks
+    from.moves.1.held from.passes c.loop-rows.left from.within c.read_ahead.ensures.passes
+
+pub returns-in_default-clause-passes : goal.returns-in_default-clause-passes
+returns-in_default-clause-passes g c =
+    let from = c.loop-rows.invariant in
+    passes_then g.D.Disk.tells c.args.tables.now.tables (g.D.Disk.world c.args.disk.now).seen.held c.args.blocks (g.D.Disk.world c.loop-rows.disk).seen.held c.args.rows.now.walks c.loop-rows.rows.walks c.read_ahead.new.rows.walks
+    from.moves.1.held from.passes c.loop-rows.left from.within c.read_ahead.ensures.passes
+
+pub returns-then-not-advance_filled-clause-passes : goal.returns-then-not-advance_filled-clause-passes
+returns-then-not-advance_filled-clause-passes g c =
+    let from = c.loop-rows.invariant in
+    subst (PassesBlocks g.D.Disk.tells c.args.tables.now.tables (g.D.Disk.world c.args.disk.now).seen.held c.args.blocks c.args.rows.now.walks) (sym c.advance_filled.ensures.walks)
+    (passes_then g.D.Disk.tells c.args.tables.now.tables (g.D.Disk.world c.args.disk.now).seen.held c.args.blocks (g.D.Disk.world c.loop-rows.disk).seen.held c.args.rows.now.walks c.loop-rows.rows.walks c.read_ahead.new.rows.walks
+    from.moves.1.held from.passes c.loop-rows.left from.within c.read_ahead.ensures.passes)
+
+pub returns-in_err-add_row-clause-passes : goal.returns-in_err-add_row-clause-passes
+returns-in_err-add_row-clause-passes g c =
+    let from = c.loop-rows.invariant in
+    subst (PassesBlocks g.D.Disk.tells c.args.tables.now.tables (g.D.Disk.world c.args.disk.now).seen.held c.args.blocks c.args.rows.now.walks) (sym c.advance_filled.ensures.walks)
+    (passes_then g.D.Disk.tells c.args.tables.now.tables (g.D.Disk.world c.args.disk.now).seen.held c.args.blocks (g.D.Disk.world c.loop-rows.disk).seen.held c.args.rows.now.walks c.loop-rows.rows.walks c.read_ahead.new.rows.walks
+    from.moves.1.held from.passes c.loop-rows.left from.within c.read_ahead.ensures.passes)
+
+pub returns-then-not-advance_filled-clause-ended : goal.returns-then-not-advance_filled-clause-ended
+returns-then-not-advance_filled-clause-ended g c =
+    let some_ahead : is_some c.in_ok-ahead.ahead ≡ true = ap (λ (o : Option ℕ). is_some o) c.in-Some.is in
+    c.advance_filled.ensures.ended c.args.tables.now.tables (c.in_ok-ahead.ensures.read_all some_ahead) c.if-not-advance_filled.true

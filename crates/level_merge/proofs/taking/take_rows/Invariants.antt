@@ -3,7 +3,7 @@ use Rattle.std.specs.Prelude.{IsTrue}
 use Rattle.disk_trait.specs.World.{ReadMoves}
 use Rattle.key_base.specs.Limits.{max_key_bytes}
 use Rattle.level_merge.specs.JobValue.{IsBuilding}
-use Rattle.level_merge.specs.SliceSteps.{FillsOutput}
+use Rattle.level_merge.specs.SliceSteps.{FillsOutput, PassesBlocks}
 use Rattle.merge_rows.specs.Reads.{OnlyReads, blocks_left}
 use Rattle.merge_rows.specs.Steps.{IsSoundMerge, SourcesStay}
 use Rattle.merge_rows.proofs.Rank.{height, strings}
@@ -22,6 +22,7 @@ invariant-loop-rows g l =
       settings : l.built.settings ≡ l.fn.built.settings;
       fills : FillsOutput tells tables before.seen.held l.beside l.drops l.fn.rows l.rows l.fn.built.entries l.built.entries;
       within : l.left ≤ l.blocks;
+      passes : PassesBlocks tells tables before.seen.held l.blocks l.fn.rows.walks l.rows.walks;
       some : l.left < l.blocks → blocks_left tables l.rows.walks < blocks_left tables l.fn.rows.walks;
       moves : OnlyReads before after;
       paced : ReadMoves (2 * (l.blocks - l.left)) before after;

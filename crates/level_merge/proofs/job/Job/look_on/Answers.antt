@@ -1,7 +1,7 @@
-use Rattle.std.proofs.Common.{◌≡◌, ◌∙◌, ◌<◌, ◌≤◌, inl, inr, ℕ, false, length, sym, ap, subst}
+use Rattle.std.proofs.Common.{◌≡◌, ◌∙◌, ◌<◌, inl, inr, false, length, refl, sym, subst}
 use Rattle.std.specs.Prelude.{Result, IfOk}
-use Rattle.level_merge.specs.JobValue.{JobValue, is_full}
-use Rattle.level_merge.specs.SliceSteps.{IsStop, LooksOn}
+use Rattle.level_merge.specs.JobValue.{JobValue}
+use Rattle.level_merge.specs.SliceSteps.{IsStop, LooksOn, ReadyAtEnd, StopsAtEnd}
 use Rattle.level_merge.specs.declared.fault.JobFault.{JobFault}
 use Rattle.level_merge.specs.declared.fault.Sliced.{Sliced}
 use Rattle.level_merge.specs.declared.taking.Stop.{Stop}
@@ -33,3 +33,22 @@ returns-clause-said g c =
 pub returns-then-not-is_empty-clause-said : goal.returns-then-not-is_empty-clause-said
 returns-then-not-is_empty-clause-said g c =
     inr (subst (λ (m : JobValue). 0 < length m.built) c.self.view_is (some_length c.self.inside.built.entries (sym c.is_empty.ensures ∙ c.if-not-is_empty.true)))
+
+-- each walk is at its end then
+pub returns-clause-ended : goal.returns-clause-ended
+returns-clause-ended g c =
+    let tables = c.args.tables.now.tables in
+    let new = c.take_rows.new.self in
+    let ready = λ (r : Result Sliced JobFault). IfOk r (ReadyAtEnd tables new) in
+    elim c.match-take_rows.branch [
+      | in-Ok-Blocks w ↦ subst ready (sym w.result-is) tt
+      | in-Ok-Full w ↦ subst ready (sym w.result-is) tt
+      | in-Ok-End+else-not-is_empty w ↦ subst ready (sym w.result-is) (subst (StopsAtEnd tables new.merge) w.in-Ok-End.field-0-is w.in-Ok-End.ensures.ended)
+      | in-Err w ↦ subst ready (sym w.result-is) tt
+    ]
+
+pub returns-clause-still : goal.returns-clause-still
+returns-clause-still g c t = c.take_rows.ensures.passes.none refl t
+
+pub returns-then-not-is_empty-clause-still : goal.returns-then-not-is_empty-clause-still
+returns-then-not-is_empty-clause-still g c t = c.take_rows.ensures.passes.none refl t
