@@ -12,6 +12,7 @@ pub mod CompactLeads
 pub mod CompactPlaces
 pub mod CompactRuns
 pub mod CompactSlices
+pub mod CompactSound
 pub mod CompactVersions
 pub mod Countings
 pub mod Dropped
@@ -52,6 +53,7 @@ pub mod ScanBlocks
 pub mod ScanBounds
 pub mod ScanCauses
 pub mod ScanCounts
+pub mod ScanEnds
 pub mod ScanMade
 pub mod ScanPairs
 pub mod ScanReads

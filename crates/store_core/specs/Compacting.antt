@@ -1,6 +1,7 @@
 -- What a compaction makes of a store, and why it is refused.
 use Rattle.std.specs.Prelude.{◌≡◌, ◌≢◌, ◌⊎◌, ◌<◌, ◌≤◌, ◌+◌, ◌++◌, ℕ, Bool, false, true, List, [], map, length, take, None, Result, Ok, Err, IsOk}
 use Rattle.std.specs.List.{AllByRecursion}
+use Rattle.block_model.specs.Index.{row_pages}
 use Rattle.byte_fields.specs.declared.parts.Row.{Row}
 use Rattle.disk_trait.specs.World.{Now, Rose, World}
 use Rattle.disk_trait.specs.declared.fault.DiskFault.{DiskFault}
@@ -36,6 +37,10 @@ use Rattle.table_file.specs.Opened.{Opened}
 use Rattle.table_model.specs.Tables.{FilterBytes, Table}
 
 -- ---- whatever the device is
+
+-- the blocks of a table have as many pages as its row says
+abbrev pub HasItsPages : Opened → Type 0
+HasItsPages t = row_pages t.index.rows ≡ t.row.data_pages
 
 -- why a compaction is refused, of a store that was stopped or not, whose version has this epoch
 abbrev pub IsCompactRefusal : Bool → ℕ → World → World → StoreError → Type 0

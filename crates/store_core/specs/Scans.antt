@@ -1,5 +1,6 @@
 -- What a scan of a store is, and the pairs that it gives.
-use Rattle.std.specs.Prelude.{◌≡◌, ◌≢◌, ◌<◌, ◌+◌, ◌-◌, ℕ, zero, suc, Bool, true, false, not, ◌&&◌, ◌==◌, if◌then◌else◌, List, [], ◌∷◌, length, take, count_by, sum_by, Contains, Option, Some, None}
+use Rattle.std.specs.Prelude.{◌≡◌, ◌≢◌, ◌<◌, ◌+◌, ◌-◌, ℕ, zero, suc, Bool, true, false, not, ◌&&◌, ◌==◌, if◌then◌else◌, List, [], ◌∷◌, length, take, count_by, sum_by, Contains, Option, Some, None, IfSome}
+use Rattle.std.specs.List.{AllByRecursion}
 use Rattle.std.specs.Option.{option_map}
 use Rattle.disk_trait.specs.Image.{Image}
 use Rattle.disk_trait.specs.World.{World}
@@ -9,8 +10,8 @@ use Rattle.filter_model.specs.Answers.{ranged}
 use Rattle.line_model.specs.Replies.{Reply}
 use Rattle.map_model.specs.Slices.{first_pair, is_before, is_up_to}
 use Rattle.map_model.specs.SortedMap.{Bytes, Map}
-use Rattle.merge_rows.specs.Merges.{Merge, TableWalk, rows_left, walk_left}
-use Rattle.merge_rows.specs.Reads.{SomeBlock, blocks_left, ones, wants}
+use Rattle.merge_rows.specs.Merges.{Merge, TableWalk, merge_from, rows_left, walk_left}
+use Rattle.merge_rows.specs.Reads.{HasReadAll, PassSound, SomeBlock, blocks_left, ones, wants}
 use Rattle.merge_rows.specs.Rows.{KeyFloor, clears}
 use Rattle.merge_rows.specs.Steps.{IsSoundMerge}
 use Rattle.state_model.specs.Bounds.{is_passed, seek_bound}
@@ -22,7 +23,7 @@ use Rattle.store_core.specs.declared.error.StoreError.{StoreError}
 use Rattle.store_core.specs.declared.error.StoreError.TheVariants as error
 use Rattle.table_file.specs.Faults.{IsBlockDamage}
 use Rattle.table_file.specs.Opened.{Opened}
-use Rattle.table_file.specs.Search.{IsGetFault}
+use Rattle.table_file.specs.Search.{IsGetFault, IsSoundBlock}
 use Rattle.table_file.specs.declared.fault.TableFault.TheVariants as table
 use Rattle.table_model.specs.Tables.{Table}
 
@@ -139,6 +140,37 @@ step_bound scan image = blocks_of_step scan.left (blocks_on_way scan.high scan.m
 abbrev pub MayRead : State → Bytes → Option Bytes → Type 0
 MayRead s low None = s.tables ≢ []
 MayRead s low (Some high) = 0 < seek_bound s low high
+
+-- ---- what was passed, whatever the tables' blocks are
+
+-- A walk was gone along up to an upper bound: the entry at hand is above it, or none is and each block of the table was read.
+pub record IsDoneUpTo (high : Option Bytes) (tables : List Opened) (w : TableWalk) : Type 0 where
+  pub above : IfSome w.walk.now (λ e. is_up_to high e.key ≡ false)
+  pub whole : HasReadAll tables w
+
+abbrev pub AreDoneUpTo : Option Bytes → List Opened → List TableWalk → Type 0
+AreDoneUpTo high tables walks = AllByRecursion (IsDoneUpTo high tables) walks
+
+-- a scan has given all its pairs
+abbrev pub IsScanDone : ScanWalk → Type 0
+IsScanDone scan = AreDoneUpTo scan.high scan.tables scan.merge.walks
+
+-- each block of these tables is sound
+abbrev pub AreAllSound : List Opened → Image → Type 0
+AreAllSound tables image = AllByRecursion (λ (t : Opened). (n : ℕ) → n < length t.index.rows → IsSoundBlock t n image) tables
+
+-- the walks of a scan between two bounds, as it begins: over the tables whose filter admits them
+abbrev pub walks_between : Bytes → Option Bytes → List Opened → List TableWalk
+walks_between low high tables = (merge_from (numbers_admitting low high tables) tables None low false).walks
+
+-- What was counted: a scan from the lower bound on, over sound blocks alone, up to where it had given all its pairs, unless as many
+-- were counted as a number holds.
+pub record CountsSound (tables : List Opened) (low high : Bytes) (image : Image) (count : ℕ) : Type 0 where
+  pub walked : ScanWalk
+  pub tables_are : walked.tables ≡ tables
+  pub high_is : walked.high ≡ Some high
+  pub passes : PassSound tables image (walks_between low (Some high) tables) walked.merge.walks
+  pub done : count < 18446744073709551615 → IsScanDone walked
 
 -- ---- how many pairs more
 

@@ -16,6 +16,7 @@ use Rattle.level_merge.specs.declared.fault.JobFault.TheVariants as job
 use Rattle.level_merge.specs.declared.fault.Sliced.{Sliced}
 use Rattle.line_model.specs.Replies as reply
 use Rattle.manifest_model.specs.Version.{Version}
+use Rattle.merge_rows.specs.Reads.{AreAtEnd, PassSound}
 use Rattle.merge_rows.specs.Steps.{numbers}
 use Rattle.state_model.specs.Merges.{choose}
 use Rattle.state_model.specs.State.{Job, State, without_job}
@@ -116,6 +117,25 @@ abbrev pub IsWorkOf : StoreValue → JobValue → StoreValue → Tended → Type
 IsWorkOf before m after tended.Worked = HasWorked before m after
 IsWorkOf before m after tended.Idle = ⊥
 IsWorkOf before m after (tended.Full need gap) = Unit {0}
+
+-- Over a device that tells: each block that this merge passed with the merge slice is sound; and where it was installed no block of its
+-- tables was left out.
+pub record WorksOnSound (before : StoreValue) (image : Image) (m : JobValue) (after : StoreValue) : Type 0 where
+  pub later : JobValue
+  pub passes : PassSound before.tables image m.merge.walks later.merge.walks
+  pub done : (after.job ≡ Some later) ⊎ ((after.job ≡ None) × AreAtEnd before.tables later.merge.walks)
+
+-- where that is the answer
+abbrev pub IsSoundWorkOf : StoreValue → Image → JobValue → StoreValue → Tended → Type 0
+IsSoundWorkOf before image m after tended.Worked = WorksOnSound before image m after
+IsSoundWorkOf before image m after tended.Idle = Unit {0}
+IsSoundWorkOf before image m after (tended.Full need gap) = Unit {0}
+
+-- so of the merge that runs, or of the one that begins
+abbrev pub IsSoundWork : StoreValue → Image → StoreValue → Tended → Type 0
+IsSoundWork before image after tended.Worked = (m : JobValue) × IsMergeAtHand before m × WorksOnSound before image m after
+IsSoundWork before image after tended.Idle = Unit {0}
+IsSoundWork before image after (tended.Full need gap) = Unit {0}
 
 -- so of the merge that runs, or of the one that begins
 abbrev pub IsWork : StoreValue → StoreValue → Tended → Type 0

@@ -1,5 +1,5 @@
 //! All of a store becomes tables of the last level.
-ghost use Rattle.std.specs.Prelude.{◌≡◌, ◌≢◌, ◌<◌, ◌≤◌, ◌*◌, ◌||◌, ◌⊎◌, [], true, false, None, IsTrue, IfOk, IfErr, MatchResult};
+ghost use Rattle.std.specs.Prelude.{◌≡◌, ◌≢◌, ◌<◌, ◌≤◌, ◌*◌, ◌||◌, ◌⊎◌, [], true, false, None, IsTrue, IfOk, IfErr, OnOk, MatchResult};
 ghost use Rattle.std.specs.List.{AllByRecursion};
 ghost use Rattle.block_model.specs.Pages.{page_bytes};
 ghost use Rattle.disk_trait.specs.World.{Meanwhile, ReadMoves};
@@ -12,12 +12,12 @@ ghost use Rattle.manifest_model.specs.Laws.{IsVersion, RowFits};
 ghost use Rattle.state_model.specs.State.{State, without_job};
 ghost use Rattle.state_model.specs.View.{state_map};
 ghost use Rattle.store_core.specs.Answers.{AnswersRequest, IsTried, stopped_by, stops, told_change};
-ghost use Rattle.store_core.specs.Compacting.{AreAllMade, AreCompact, FailsSo, IsCompactFault, IsCompactRefusal, IsHeldBy, IsInstalledWhole, IsWritingCause, IsWritingFault, StandAlone, compacted_manifest};
+ghost use Rattle.store_core.specs.Compacting.{AreAllMade, AreCompact, FailsSo, HasItsPages, IsCompactFault, IsCompactRefusal, IsHeldBy, IsInstalledWhole, IsWritingCause, IsWritingFault, StandAlone, compacted_manifest};
 ghost use Rattle.store_core.specs.Faults.{of_job_fault};
 ghost use Rattle.store_core.specs.Framing.{IsInUse, LeavesPlaces};
 ghost use Rattle.store_core.specs.Refusing.{IsCompactDue};
 ghost use Rattle.store_core.specs.StoreValue.{rows_of};
-ghost use Rattle.store_core.specs.Scans.{IsScanShown};
+ghost use Rattle.store_core.specs.Scans.{AreAllSound, IsScanShown};
 ghost use Rattle.store_core.specs.Staying.{DoesNothing, Stays};
 ghost use Rattle.store_core.specs.Tending.{SomeMoves};
 ghost use Rattle.store_core.specs.Represents.{Represents, RepresentsOn};
@@ -66,6 +66,7 @@ fn write_all<F: RangeFilter, D: Disk>(
     ensures made { (s : State) → IsTrue D.tells → IsHeldBy F.spelling (filter_bytes_of F.spelling F.built_cutoff) version.now tables.now.tables memory.now.entries s (D.world disk.old)
         → MatchResult result (λ made. AreAllMade F.spelling (filter_bytes_of F.spelling F.built_cutoff) s made.items (D.world disk.new))
         (IsWritingCause (filter_bytes_of F.spelling F.built_cutoff) s (D.world disk.old) (D.world disk.new)) }
+    ensures passed { IsTrue D.tells → OnOk result (AreAllSound tables.now.tables (D.world disk.old).seen.held) }
     ensures compact { IfOk result (λ made. AreCompact version.now.version (rows_of made.items)) }
     ensures fault { IfErr result (IsWritingFault (D.world disk.old) (D.world disk.new)) }
     ensures shown { IsTrue D.tells → IfErr result (λ why. IsScanShown tables.now.tables (D.world disk.new).seen.held (of_job_fault why)) }
@@ -74,6 +75,7 @@ fn write_all<F: RangeFilter, D: Disk>(
 {
     // the law of merges: this one makes the tables of a compaction
     merges_begin();
+    have_their_pages(tables.as_slice());
     let mut extents = extents_of(alloc, version, &[])?;
     let mut job = Job::compact(alloc, version.settings, memory, tables)?;
     loop {
@@ -81,6 +83,15 @@ fn write_all<F: RangeFilter, D: Disk>(
             Sliced::Working => {}
             Sliced::Ready => return Ok(job.into_tables()),
         }
+    }
+}
+
+// The blocks of each table have as many pages as its row says: no other table's page is read for it. It is called for that alone.
+fn have_their_pages<F: RangeFilter>(tables: &[Table<F>])
+    ensures { AllByRecursion HasItsPages tables.now }
+{
+    for i in 0..tables.len() {
+        row_of(&tables[i]);
     }
 }
 
@@ -146,6 +157,7 @@ fn replace_all<F: RangeFilter, D: Disk>(
     requires entries { AllByRecursion IsEntry memory.now.entries }
     ensures meanwhile { (s : State) → IsTrue D.tells → IsHeldBy F.spelling (filter_bytes_of F.spelling F.built_cutoff) version.now tables.now.tables memory.now.entries s (D.world disk.old)
         → ((memory.now.entries ≢ []) ⊎ (tables.now.tables ≢ [])) → Meanwhile (StandsForMap F.spelling (state_map s)) (D.world disk.old) (D.world disk.new) }
+    ensures passed { IsTrue D.tells → OnOk result (AreAllSound tables.now.tables (D.world disk.old).seen.held) }
     ensures done { (s : State) → IsTrue D.tells → IsHeldBy F.spelling (filter_bytes_of F.spelling F.built_cutoff) version.now tables.now.tables memory.now.entries s (D.world disk.old)
         → ((memory.now.entries ≢ []) ⊎ (tables.now.tables ≢ []))
         → MatchResult result (λ done. StandAlone F.spelling (filter_bytes_of F.spelling F.built_cutoff) s done.version done.tables.tables (D.world disk.new))
@@ -188,6 +200,7 @@ impl<F: RangeFilter> Store<F> {
     pub fn compact<D: Disk>(&mut self, disk: &mut D) -> Result<(), StoreError>
         ensures answered { (s : State) → IsTrue D.tells → self.old.stopped ≡ false → Represents F.spelling (filter_bytes_of F.spelling F.built_cutoff) self.old s (D.world disk.old)
             → AnswersRequest F.spelling (filter_bytes_of F.spelling F.built_cutoff) s compact_line (told_change result) self.new (D.world disk.old) (D.world disk.new) }
+        ensures sound { IsTrue D.tells → OnOk result (AreAllSound self.old.tables (D.world disk.old).seen.held) }
         ensures refused { MatchResult result (λ _. IsTried self.old.stopped None) (IsCompactRefusal self.old.stopped self.old.manifest.version.epoch (D.world disk.old) (D.world disk.new)) }
         ensures shown { IsTrue D.tells → IfErr result (IsScanShown self.old.tables (D.world disk.new).seen.held) }
         ensures dropped { self.old.stopped ≡ false → self.new.job ≡ None }
@@ -237,6 +250,7 @@ impl<F: RangeFilter> Store<F> {
         requires epoch { self.old.manifest.version.epoch < last_epoch }
         ensures answered { (s : State) → IsTrue D.tells → Represents F.spelling (filter_bytes_of F.spelling F.built_cutoff) self.old (without_job s) (D.world disk.old)
             → AnswersRequest F.spelling (filter_bytes_of F.spelling F.built_cutoff) s compact_line (told_change result) self.new (D.world disk.old) (D.world disk.new) }
+        ensures sound { IsTrue D.tells → OnOk result (AreAllSound self.old.tables (D.world disk.old).seen.held) }
         ensures fault { IfErr result (IsCompactFault (D.world disk.old) (D.world disk.new)) }
         ensures shown { IsTrue D.tells → IfErr result (IsScanShown self.old.tables (D.world disk.new).seen.held) }
         ensures none_left { self.new.job ≡ None }

@@ -1,5 +1,5 @@
 //! How many pairs there are.
-ghost use Rattle.std.specs.Prelude.{◌≡◌, ◌≢◌, ◌≤◌, ◌+◌, true, Some, None, IsTrue, IfOk, IfErr, MatchResult};
+ghost use Rattle.std.specs.Prelude.{◌≡◌, ◌≢◌, ◌≤◌, ◌+◌, true, false, Some, None, IsTrue, IfOk, IfErr, MatchResult};
 ghost use Rattle.disk_trait.specs.World.{ReadMoves};
 ghost use Rattle.line_model.specs.Limits.{limit_of};
 ghost use Rattle.line_model.specs.Requests.{Count};
@@ -11,7 +11,7 @@ ghost use Rattle.state_model.specs.View.{state_map};
 ghost use Rattle.store_core.specs.Answers.{IsTried};
 ghost use Rattle.store_core.specs.Getting.{IsMet, IsUndamaged};
 ghost use Rattle.store_core.specs.Counts.{IsCountRefusal};
-ghost use Rattle.store_core.specs.Scans.{IsScanShown, blocks_admitting};
+ghost use Rattle.store_core.specs.Scans.{CountsSound, IsScanShown, blocks_admitting};
 ghost use Rattle.store_core.specs.Represents.{Represents};
 ghost use Rattle.table_model.specs.Tables.{filter_bytes_of};
 
@@ -33,6 +33,7 @@ impl<F: RangeFilter> Store<F> {
         ensures undamaged { (s : State) → IsTrue D.tells → Represents F.spelling (filter_bytes_of F.spelling F.built_cutoff) self.now s (D.world disk.old) → IfErr result IsUndamaged }
         ensures shown { IsTrue D.tells → IfErr result (IsScanShown self.now.tables (D.world disk.old).seen.held) }
         ensures only_if_read { (s : State) → IsTrue D.tells → Represents F.spelling (filter_bytes_of F.spelling F.built_cutoff) self.now s (D.world disk.old) → IfErr result (IsMet (seek_bound s low.now high.now)) }
+        ensures sound { IsTrue D.tells → IfOk result (λ n. is_before high.now low.now ≡ false → CountsSound self.now.tables low.now high.now (D.world disk.old).seen.held n) }
         ensures whole { (s : State) → IsTrue D.tells → Represents F.spelling (filter_bytes_of F.spelling F.built_cutoff) self.now s (D.world disk.old)
             → (D.world disk.new).seen.reads ≤ (D.world disk.old).seen.reads + blocks_admitting low.now (Some high.now) self.now.tables }
         ensures refused { MatchResult result (λ _. IsTried self.now.stopped (limit_of (Count low.now high.now))) (IsCountRefusal self.now.stopped (limit_of (Count low.now high.now)) (D.world disk.old) (D.world disk.new)) }

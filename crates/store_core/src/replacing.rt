@@ -6,6 +6,7 @@ ghost use Rattle.filter_api.specs.Ranges.{IsRowInRange};
 ghost use Rattle.manifest_model.specs.Laws.{RowFits};
 ghost use Rattle.merge_rows.specs.Steps.{numbers};
 ghost use Rattle.store_core.specs.Caching.{renumbered};
+ghost use Rattle.store_core.specs.Compacting.{HasItsPages};
 ghost use Rattle.store_core.specs.Replacing.{goes_before, merged_manifest, others_in, put_in, tables_behind};
 ghost use Rattle.store_core.specs.StoreValue.{rows_of};
 
@@ -100,6 +101,7 @@ pub(crate) fn row_of<F: RangeFilter>(table: &Table<F>) -> Row
     ensures row { result ≡ table.now.row }
     ensures fits { RowFits result }
     ensures range { IsRowInRange result }
+    ensures pages { HasItsPages table.now }
 {
     fitting(*table.row())
 }

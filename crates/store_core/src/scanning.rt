@@ -10,14 +10,14 @@ ghost use Rattle.line_model.specs.Requests.{Range, Seek};
 ghost use Rattle.map_model.specs.Slices.{between, first_pair, is_up_to, slice};
 ghost use Rattle.map_model.specs.SortedMap.{Bytes, Map};
 ghost use Rattle.merge_rows.specs.Merges.{rows_left};
-ghost use Rattle.merge_rows.specs.Reads.{OnlyReads, SomeBlock, blocks_left};
+ghost use Rattle.merge_rows.specs.Reads.{OnlyReads, PassSound, SomeBlock, blocks_left};
 ghost use Rattle.merge_rows.specs.Steps.{AreWalksIn, IsSoundMerge, SourcesStay, numbers, stands};
 ghost use Rattle.state_model.specs.Bounds.{seek_bound};
 ghost use Rattle.state_model.specs.State.{State};
 ghost use Rattle.state_model.specs.View.{state_map};
 ghost use Rattle.store_core.specs.Answers.{IsTried};
 ghost use Rattle.store_core.specs.Getting.{IsLookFault, IsUndamaged};
-ghost use Rattle.store_core.specs.Scans.{IsScanRefusal, IsScanShown, IsStepFault, IsWalkShown, MayRead, StillComes, admits_keys, at_most, blocks_admitting, blocks_on_way, blocks_to_come, given, is_ended, left_behind, numbers_admitting, pair_in, pairs_up_to, opened_tables, step_bound};
+ghost use Rattle.store_core.specs.Scans.{AreDoneUpTo, IsScanDone, IsScanRefusal, IsScanShown, IsStepFault, IsWalkShown, MayRead, StillComes, admits_keys, at_most, blocks_admitting, blocks_on_way, blocks_to_come, given, is_ended, left_behind, numbers_admitting, pair_in, pairs_up_to, opened_tables, step_bound, walks_between};
 ghost use Rattle.store_core.specs.Represents.{ReadsAs};
 ghost use Rattle.table_file.specs.Search.{IsGetFault};
 ghost use Rattle.table_model.specs.Tables.{filter_bytes_of};
@@ -152,6 +152,8 @@ fn next_pair<F: RangeFilter, D: Disk>(
         → OnOk result ((D.world disk.new).seen.reads + blocks_left tables.now.tables rows.new.walks ≤ (D.world disk.old).seen.reads + blocks_left tables.now.tables rows.old.walks) }
     ensures tried { IsTrue D.tells → IsSoundMerge rows.old tables.now.tables (D.world disk.old).seen.held
         → OnErr result ((D.world disk.new).seen.reads ≤ (D.world disk.old).seen.reads + blocks_left tables.now.tables rows.old.walks) }
+    ensures passes { IsTrue D.tells → PassSound tables.now.tables (D.world disk.old).seen.held rows.old.walks rows.new.walks }
+    ensures done { IfOk result (λ found. found ≡ false → AreDoneUpTo (option_map (λ v. v.items) high.now) tables.now.tables rows.new.walks) }
     ensures only_if_read { OnErr result (1 ≤ length rows.old.walks) }
     ensures cause { IfErr result (IsLookFault (D.world disk.old) (D.world disk.new)) }
     ensures fault { IsTrue D.tells → IfErr result (λ why. SomeBlock tables.now.tables (numbers rows.old.walks) (λ t n. IsGetFault t n (D.world disk.old).seen.held why)) }
@@ -217,6 +219,7 @@ impl<F: RangeFilter> Store<F> {
             → IfOk result (λ scan. 1 ≤ opened_tables scan → MayRead s low.now (Some high.now)) }
         ensures blocks { IfOk result (λ scan. blocks_to_come scan ≤ blocks_admitting low.now (Some high.now) self.now.tables) }
         ensures made { IfOk result (λ scan. (scan.tables ≡ self.now.tables) × (scan.left ≡ Some most)) }
+        ensures begins { IfOk result (λ scan. (scan.high ≡ Some high.now) × (scan.merge.walks ≡ walks_between low.now (Some high.now) self.now.tables)) }
         ensures refused { MatchResult result (λ _. IsTried self.now.stopped (limit_of (Range low.now high.now most))) (IsScanRefusal self.now.stopped (limit_of (Range low.now high.now most))) }
     {
         self.scan(low, Some(high), Some(most))
@@ -237,6 +240,7 @@ impl<F: RangeFilter> Store<F> {
             → IfOk result (λ scan. 1 ≤ opened_tables scan → MayRead s low.now (option_map (λ h. h.now) high.entry)) }
         ensures blocks { IfOk result (λ scan. blocks_to_come scan ≤ blocks_admitting low.now (option_map (λ h. h.now) high.entry) self.now.tables) }
         ensures made { IfOk result (λ scan. (scan.tables ≡ self.now.tables) × (scan.left ≡ most)) }
+        ensures begins { IfOk result (λ scan. (scan.high ≡ option_map (λ h. h.now) high.entry) × (scan.merge.walks ≡ walks_between low.now (option_map (λ h. h.now) high.entry) self.now.tables)) }
         ensures refused { MatchResult result (λ _. IsTried self.now.stopped (limit_of (Seek low.now (option_map (λ h. h.now) high.entry)))) (IsScanRefusal self.now.stopped (limit_of (Seek low.now (option_map (λ h. h.now) high.entry)))) }
     {
         if self.stopped {
@@ -301,12 +305,15 @@ impl<'s, F: RangeFilter> Scan<'s, F> {
             → OnOk result ((D.world disk.new).seen.reads + blocks_to_come self.new ≤ (D.world disk.old).seen.reads + blocks_to_come self.old) }
         ensures tried { (m : Map) → IsTrue D.tells → StillComes F.spelling self.old m (D.world disk.old).seen.held
             → OnErr result ((D.world disk.new).seen.reads ≤ (D.world disk.old).seen.reads + blocks_to_come self.old) }
+        ensures passes { IsTrue D.tells → PassSound self.old.tables (D.world disk.old).seen.held self.old.merge.walks self.new.merge.walks }
+        ensures done { IfOk result (λ some. some ≡ false → self.old.left ≢ Some 0 → IsScanDone self.new) }
         ensures only_if_read { OnErr result ((1 ≤ opened_tables self.old) × (self.old.left ≢ Some 0)) }
         ensures more { IfOk result (λ some. some ≡ true → self.old.left ≢ Some 0) }
         ensures ended { self.old.left ≡ Some 0 → IsOk result × ReadMoves 0 (D.world disk.old) (D.world disk.new) }
         ensures counts { IfOk result (λ some. self.new.left ≡ left_behind some self.old.left) }
         ensures left { OnErr result (self.new.left ≡ self.old.left) }
         ensures same { (self.new.tables ≡ self.old.tables) × (opened_tables self.new ≡ opened_tables self.old) }
+        ensures high { self.new.high ≡ self.old.high }
         ensures refused { IfErr result (IsStepFault (D.world disk.old) (D.world disk.new)) }
         ensures moves { OnlyReads (D.world disk.old) (D.world disk.new) }
     {

@@ -6,8 +6,9 @@ ghost use Rattle.disk_trait.specs.World.{ReadMoves};
 ghost use Rattle.image_model.specs.Stands.{settings_of};
 ghost use Rattle.key_base.specs.Limits.{log_bytes, max_tables};
 ghost use Rattle.level_merge.specs.JobValue.{work_left};
-ghost use Rattle.level_merge.specs.SliceSteps.{FailsBeforeWrite, HasNoRoom, IsSliceFault};
+ghost use Rattle.level_merge.specs.SliceSteps.{FailsBeforeWrite, HasNoRoom, IsSliceFault, ReadyAtEnd};
 ghost use Rattle.manifest_model.specs.Laws.{IsVersion};
+ghost use Rattle.merge_rows.specs.Reads.{PassSound};
 ghost use Rattle.merge_rows.specs.Steps.{numbers};
 ghost use Rattle.state_model.specs.State as model;
 ghost use Rattle.state_model.specs.Tends.{Runs, with_job};
@@ -16,7 +17,7 @@ ghost use Rattle.store_core.specs.StoreValue.{IsConsistent};
 ghost use Rattle.store_core.specs.Framing.{IsInUse, LeavesPlaces};
 ghost use Rattle.store_core.specs.Running.{HasMoreToMake, IsRun, MayRunIn, extents_with};
 ghost use Rattle.store_core.specs.Scans.{IsScanShown};
-ghost use Rattle.store_core.specs.Tending.{IsBegunAmong, IsNext, IsMergeTakenOut, IsSameMerge, IsTended, IsTendRefusal, IsWithoutRoom, IsWithoutRoomOf, IsWork, IsWorkOf, NoneIsChosen, SliceStays, SlicesJob, SomeMoves, Tends, answer_to, told_slice};
+ghost use Rattle.store_core.specs.Tending.{IsBegunAmong, IsNext, IsMergeTakenOut, IsSameMerge, IsSoundWork, IsSoundWorkOf, IsTended, IsTendRefusal, IsWithoutRoom, IsWithoutRoomOf, IsWork, IsWorkOf, NoneIsChosen, SliceStays, SlicesJob, SomeMoves, Tends, answer_to, told_slice};
 ghost use Rattle.store_core.specs.Represents.{Represents, RepresentsOn};
 ghost use Rattle.table_model.specs.Tables.{filter_bytes_of};
 
@@ -77,6 +78,7 @@ impl<F: RangeFilter> Store<F> {
         ensures shown { IsTrue D.tells → IfErr result (IsScanShown self.new.tables (D.world disk.new).seen.held) }
         ensures dropped { self.old.stopped ≡ false → OnErr result (self.new.job ≡ None) }
         ensures worked { IfOk result (IsWork self.old self.new) }
+        ensures sound { IsTrue D.tells → IfOk result (IsSoundWork self.old (D.world disk.old).seen.held self.new) }
         ensures no_room { IfOk result (IsWithoutRoom (filter_bytes_of F.spelling F.built_cutoff) self.old) }
         ensures stays { SliceStays result (record self.old { job = self.new.job }) self.new }
         ensures frame { LeavesPlaces (IsInUse self.old.manifest log_bytes) (D.world disk.old) (D.world disk.new) }
@@ -145,6 +147,7 @@ impl<F: RangeFilter> Store<F> {
         ensures shown { IsTrue D.tells → IfErr result (IsScanShown self.new.tables (D.world disk.new).seen.held) }
         ensures dropped { OnErr result (self.new.job ≡ None) }
         ensures worked { IfOk result (IsWorkOf self.old job.entry self.new) }
+        ensures sound { IsTrue D.tells → IfOk result (IsSoundWorkOf self.old (D.world disk.old).seen.held job.entry self.new) }
         ensures no_room { IfOk result (IsWithoutRoomOf (filter_bytes_of F.spelling F.built_cutoff) self.old.manifest.version job.entry) }
         ensures stays { SliceStays result (record self.old { job = self.new.job }) self.new }
         ensures frame { LeavesPlaces (IsInUse self.old.manifest log_bytes) (D.world disk.old) (D.world disk.new) }
@@ -188,6 +191,8 @@ impl<F: RangeFilter> Store<F> {
         ensures unwritten { IfErr result (FailsBeforeWrite (D.world disk.old) (D.world disk.new)) }
         ensures no_room { IfErr result (HasNoRoom (filter_bytes_of F.spelling F.built_cutoff) job.old.settings self.now.manifest.version.pages (extents_with self.now.manifest.version job.old.outputs)) }
         ensures frame { LeavesPlaces (IsInUse self.now.manifest log_bytes) (D.world disk.old) (D.world disk.new) }
+        ensures passes { IsTrue D.tells → PassSound self.now.tables (D.world disk.old).seen.held job.old.merge.walks job.new.merge.walks }
+        ensures done { IfOk result (ReadyAtEnd self.now.tables job.new) }
         ensures ends { IfOk result (λ sliced. sliced ≡ Sliced.Working → work_left self.now.tables job.new < work_left self.now.tables job.old) }
         ensures same { IsSameMerge job.old job.new }
         ensures moves { SomeMoves (page_bytes * self.now.manifest.version.pages) (D.world disk.old) (D.world disk.new) }

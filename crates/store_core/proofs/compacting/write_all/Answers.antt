@@ -1,5 +1,6 @@
-use Rattle.std.proofs.Common.{◌≡◌, ◌∙◌, List, map, sym, ap, subst}
+use Rattle.std.proofs.Common.{◌≡◌, ◌∙◌, List, length, map, sym, ap, subst}
 use Rattle.std.specs.Prelude.{Ok}
+use Rattle.std.specs.List.{AllByRecursion}
 use Rattle.std.proofs.lemmas.List.{append-nil}
 use Rattle.byte_fields.specs.declared.parts.Row.{Row}
 use Rattle.disk_trait.proofs.Moments.{now_at, started}
@@ -7,16 +8,17 @@ use Rattle.extent_model.specs.Extents.{AreLaid}
 use Rattle.filter_api.specs.declared.settings.Settings.{Settings}
 use Rattle.image_model.specs.Stands.{settings_of}
 use Rattle.level_merge.specs.Making.{MakesAnyOutputs}
-use Rattle.level_merge.specs.JobValue.{JobValue, compaction}
-use Rattle.level_merge.specs.SliceSteps.{MayMakeAsMany}
+use Rattle.level_merge.specs.JobValue.{JobValue, all_numbers, compaction}
+use Rattle.level_merge.specs.SliceSteps.{MayMakeAsMany, ReadyAtEnd}
 use Rattle.level_merge.specs.declared.fault.Sliced.{Sliced}
 use Rattle.level_merge.specs.declared.fault.Sliced.TheVariants as sliced
 use Rattle.manifest.specs.Manifest.{Manifest}
 use Rattle.manifest_model.proofs.Rows.{rows_keep}
 use Rattle.manifest_model.specs.Rows.{extent_of}
+use Rattle.merge_rows.specs.Steps.{numbers}
 use Rattle.table_file.specs.Opened.{Opened}
 use Rattle.table_model.specs.Tables.{filter_bytes_of}
-use Rattle.store_core.specs.Compacting.{AreAllMade, AreCompact, IsWritingCause, IsWritingFault}
+use Rattle.store_core.specs.Compacting.{AreAllMade, AreCompact, HasItsPages, IsWritingCause, IsWritingFault}
 use Rattle.store_core.specs.Faults.{of_job_fault}
 use Rattle.store_core.specs.StoreValue.{rows_of}
 use Rattle.store_core.specs.Scans.{IsScanShown}
@@ -28,12 +30,16 @@ use Rattle.store_core.proofs.SlicesLeft.{slice_left}
 use Rattle.store_core.proofs.CompactFaults.{fails_so, none_moved, refused_so, slice_moved, writing_fault, writing_shown}
 use Rattle.store_core.proofs.CompactRuns.{IsCompacting, compacted_rows, compacting_begun, compacting_more}
 use Rattle.store_core.proofs.CompactSlices.{IsGoing, all_are_made, free_begun, going_begun, makes_not, makes_on, slice_goes_on, slice_refused, slice_stays, taken_is}
+use Rattle.store_core.proofs.CompactSound.{SoundBefore, all_passed, before_on, begun_before, begun_numbers}
 use Rattle.store_core.proofs.compacting.write_all.Goals as goal
 
 pub extents_of-requires-clause-laid : goal.extents_of-requires-clause-laid
 extents_of-requires-clause-laid g c =
     let v = c.args.version.now.version in
     subst (λ (rs : List Row). AreLaid v.pages (map extent_of rs)) (sym (append-nil v.rows)) (rows_keep.kept v c.requires.sound.placed).laid
+
+pub returns-in_err-extents-clause-stays : goal.returns-in_err-extents-clause-stays
+returns-in_err-extents-clause-stays g c s tells held = started _ _ held.images
 
 pub returns-in_err-job-clause-stays : goal.returns-in_err-job-clause-stays
 returns-in_err-job-clause-stays g c s tells held = started _ _ held.images
@@ -59,6 +65,8 @@ loop-job-init g c =
           (c.in_ok-extents.ensures.pages ∙ sym under.ready.named.pages) same is in
           subst (λ (x : JobValue). IsGoing spelling bytes m opened s a a x free) (sym c.in_ok-job.ensures.begun)
           (subst (λ (set : Settings). IsGoing spelling bytes m opened s a a (compaction entries set opened) free) (under.ready.named.settings ∙ sym settings) begun);
+      read = λ tells. subst (λ (x : JobValue). AllByRecursion (SoundBefore opened a.seen.held) x.merge.walks) (sym c.in_ok-job.ensures.begun) (begun_before opened a.seen.held (all_numbers (length opened)));
+      numbers_are = subst (λ (x : JobValue). numbers x.merge.walks ≡ all_numbers (length opened)) (sym c.in_ok-job.ensures.begun) (begun_numbers opened (all_numbers (length opened)));
       moves = none_moved _ a;
       frame = leaves_none (IsInUse m 262144) a;
     }
@@ -140,6 +148,9 @@ loop-job-preserved g c =
           let under = now_at _ a w going.meanwhile w.seen.held (g.met.D.Disk.current c.loop-job.disk tells) in
           let made = makes_on spelling bytes m opened c.requires.slot c.requires.rows s held.no_job held.none_kept cutoff a w x old new free now going under.tables c.in_ok-slice.field-0 (c.in_ok-slice.ensures.slices.makes tells) in
           slice_goes_on spelling bytes m opened c.requires.slot c.requires.rows s held.no_job held.none_kept cutoff a w x old new free now going under.tables c.in_ok-slice.field-0 made c.slice.ensures.slices.moves;
+      read = λ tells. before_on m opened c.requires.rows (subst (AllByRecursion HasItsPages) c.as_slice.ensures c.have_their_pages.ensures) a.seen.held w.seen.held c.loop-job.invariant.frame.held old.merge.walks new.merge.walks
+          (c.slice.ensures.slices.passes tells) (c.loop-job.invariant.read tells);
+      numbers_are = c.slice.ensures.slices.numbers_are ∙ c.loop-job.invariant.numbers_are;
       moves = slice_moved spelling cutoff m.version.pages old new free now a w x on.pages c.loop-job.invariant.moves c.slice.ensures.slices.moves;
       frame = leaves_then (IsInUse m 262144) a w x c.loop-job.invariant.frame
           (slice_left spelling cutoff m c.requires.sound c.requires.slot old new free now (IsPermutation-sym free.extents (extents_with m.version old.outputs) on.extents) w x c.slice.ensures.slices.moves);
@@ -205,3 +216,16 @@ returns-in-Ready-clause-frame g c =
     (leaves_then (IsInUse c.args.version.now 262144) (g.D.Disk.world c.args.disk.now) (g.D.Disk.world c.loop-job.disk) (g.D.Disk.world c.slice.new.disk) c.loop-job.invariant.frame
     (slice_left g.F.RangeFilter.spelling g.F.RangeFilter.built_cutoff c.args.version.now c.requires.sound c.requires.slot c.loop-job.job c.slice.new.self c.loop-job.extents c.slice.new.extents
     (IsPermutation-sym c.loop-job.extents.extents (extents_with c.args.version.now.version c.loop-job.job.outputs) c.loop-job.invariant.on.extents) (g.D.Disk.world c.loop-job.disk) (g.D.Disk.world c.slice.new.disk) c.slice.ensures.slices.moves))
+
+-- ---- each block was passed, and is sound
+
+pub returns-in-Ready-clause-passed : goal.returns-in-Ready-clause-passed
+returns-in-Ready-clause-passed g c tells =
+    let opened = c.args.tables.now.tables in
+    let a = g.D.Disk.world c.args.disk.now in
+    let w = g.D.Disk.world c.loop-job.disk in
+    let old = c.loop-job.job in
+    let new = c.slice.new.self in
+    let has = subst (AllByRecursion HasItsPages) c.as_slice.ensures c.have_their_pages.ensures in
+    all_passed opened a.seen.held new.merge.walks (c.slice.ensures.slices.numbers_are ∙ c.loop-job.invariant.numbers_are) (subst (ReadyAtEnd opened new) c.in-Ready.is c.in_ok-slice.ensures.slices.done)
+    (before_on c.args.version.now opened c.requires.rows has a.seen.held w.seen.held c.loop-job.invariant.frame.held old.merge.walks new.merge.walks (c.slice.ensures.slices.passes tells) (c.loop-job.invariant.read tells))

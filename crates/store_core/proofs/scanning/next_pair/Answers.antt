@@ -1,15 +1,18 @@
-use Rattle.std.proofs.Common.{rules, ◌≡◌, ◌∙◌, ◌≤◌, ℕ, List, not, length, sym, ap, subst, arith}
+use Rattle.std.proofs.Common.{rules, ◌≡◌, ◌∙◌, ◌≤◌, ℕ, List, not, length, refl, sym, ap, subst, arith}
 use Rattle.std.specs.Option.{option_map}
 use Rattle.std.specs.Prelude.{Option, Some, is_some}
+use Rattle.std.proofs.lemmas.Bool.{false≢true}
 use Rattle.disk_trait.proofs.Calls.{reads_none}
 use Rattle.disk_trait.specs.Image.{Image}
 use Rattle.entry_model.specs.Entries.{Entry, entry_of}
 use Rattle.key_base.specs.Limits.{max_key_bytes}
 use Rattle.merge_rows.proofs.Rank.{height_ends, height_rises}
+use Rattle.merge_rows.proofs.SoundPasses.{pass_same}
 use Rattle.merge_rows.proofs.Steps.{none_of}
 use Rattle.merge_rows.specs.Reads.{SomeBlock}
 use Rattle.merge_rows.specs.Steps.{AreWalksIn, IsSoundMerge, RowPasses, numbers}
 use Rattle.store_core.proofs.ScanCauses.{as_many_walks, block_cause, fault_at, kept_at, none_value, paced_at, reads_on, pair_some, some_mapped, step_at}
+use Rattle.store_core.proofs.ScanEnds.{bound_done, ended_done, passed_on}
 use Rattle.store_core.proofs.ScanSteps.{all_bounded, all_spent, all_tried, none_below, none_left, one_on, pair_given, set_out, stay_then, still_pairs}
 use Rattle.store_core.specs.Scans.{pair_in}
 use Rattle.table_file.specs.Search.{IsGetFault}
@@ -20,6 +23,7 @@ loop-rows-init g c =
     let before = g.D.Disk.world c.args.disk.now in
     record {
       way = set_out g.D.Disk.tells before.seen.held c.args.tables.now.tables (option_map (λ v. v.items) c.args.high.now) c.args.rows.now c.requires.keeps before.seen.reads;
+      passes = λ so. pass_same c.args.tables.now.tables before.seen.held c.args.rows.now.walks;
       moves = (0, reads_none 0 before);
     }
 
@@ -242,6 +246,7 @@ loop-rows-preserved g c =
           c.merged_laws.ensures row some (c.is_above.ensures ∙ ap not c.if-is_above.false)
           (none_value (option_map (λ v. v.now) c.in-Some.value) (some_mapped (λ v. v.now) c.in-Some.value ∙ sym c.is_some.ensures ∙ c.if-is_some.false))
           (λ so sound. c.in_ok-advance.ensures.spent so (subst (λ (f : Image). IsSoundMerge c.loop-rows.rows tables f) (sym same) sound));
+      passes = λ so. passed_on tables tables (g.D.Disk.world c.loop-rows.disk).seen.held before.seen.held c.args.rows.now.walks c.loop-rows.rows.walks c.advance.new.self.walks refl same (c.loop-rows.invariant.passes so) (c.advance.ensures.read_sound so);
       moves = reads_on before (g.D.Disk.world c.loop-rows.disk) (g.D.Disk.world c.advance.new.disk) c.loop-rows.invariant.moves c.advance.ensures.moves;
     }
 
@@ -285,3 +290,53 @@ returns-clause-spent g c so sound =
 pub returns-clause-moves : goal.returns-clause-moves
 returns-clause-moves g c =
     reads_on (g.D.Disk.world c.args.disk.now) (g.D.Disk.world c.loop-rows.disk) (g.D.Disk.world c.advance.new.disk) c.loop-rows.invariant.moves c.advance.ensures.moves
+
+-- ---- what was passed is sound, and at the end no block was left out
+
+pub returns-in_err-advance-clause-passes : goal.returns-in_err-advance-clause-passes
+returns-in_err-advance-clause-passes g c so =
+    let tables = c.args.tables.now.tables in
+    passed_on tables tables (g.D.Disk.world c.loop-rows.disk).seen.held (g.D.Disk.world c.args.disk.now).seen.held c.args.rows.now.walks c.loop-rows.rows.walks c.advance.new.self.walks refl c.loop-rows.invariant.moves.1.held
+    (c.loop-rows.invariant.passes so) (c.advance.ensures.read_sound so)
+
+pub returns-in-None-clause-passes : goal.returns-in-None-clause-passes
+returns-in-None-clause-passes g c so =
+    let tables = c.args.tables.now.tables in
+    passed_on tables tables (g.D.Disk.world c.loop-rows.disk).seen.held (g.D.Disk.world c.args.disk.now).seen.held c.args.rows.now.walks c.loop-rows.rows.walks c.advance.new.self.walks refl c.loop-rows.invariant.moves.1.held
+    (c.loop-rows.invariant.passes so) (c.advance.ensures.read_sound so)
+
+pub returns-then-is_above-clause-passes : goal.returns-then-is_above-clause-passes
+returns-then-is_above-clause-passes g c so =
+    let tables = c.args.tables.now.tables in
+    passed_on tables tables (g.D.Disk.world c.loop-rows.disk).seen.held (g.D.Disk.world c.args.disk.now).seen.held c.args.rows.now.walks c.loop-rows.rows.walks c.advance.new.self.walks refl c.loop-rows.invariant.moves.1.held
+    (c.loop-rows.invariant.passes so) (c.advance.ensures.read_sound so)
+
+pub returns-then-is_some-clause-passes : goal.returns-then-is_some-clause-passes
+returns-then-is_some-clause-passes g c so =
+    let tables = c.args.tables.now.tables in
+    passed_on tables tables (g.D.Disk.world c.loop-rows.disk).seen.held (g.D.Disk.world c.args.disk.now).seen.held c.args.rows.now.walks c.loop-rows.rows.walks c.advance.new.self.walks refl c.loop-rows.invariant.moves.1.held
+    (c.loop-rows.invariant.passes so) (c.advance.ensures.read_sound so)
+
+pub returns-clause-passes : goal.returns-clause-passes
+returns-clause-passes g c so =
+    let tables = c.args.tables.now.tables in
+    passed_on tables tables (g.D.Disk.world c.loop-rows.disk).seen.held (g.D.Disk.world c.args.disk.now).seen.held c.args.rows.now.walks c.loop-rows.rows.walks c.advance.new.self.walks refl c.loop-rows.invariant.moves.1.held
+    (c.loop-rows.invariant.passes so) (c.advance.ensures.read_sound so)
+
+pub returns-in-None-clause-done : goal.returns-in-None-clause-done
+returns-in-None-clause-done g c none =
+    absurd (false≢true (ap (λ (o : Option Entry). is_some o) c.in-None.ensures.now ∙ sym c.in_ok-advance.ensures.said ∙ c.if-branch.true))
+
+pub returns-then-is_above-clause-done : goal.returns-then-is_above-clause-done
+returns-then-is_above-clause-done g c none =
+    let row = entry_of c.in-Some.key.now (option_map (λ v. v.now) c.in-Some.value) in
+    let some : c.advance.new.self.now ≡ Some row = sym c.in-Some.ensures.now in
+    bound_done (option_map (λ v. v.items) c.args.high.now) c.args.tables.now.tables c.advance.new.self.walks c.advance.new.self.now row some (c.is_above.ensures ∙ ap not c.if-is_above.true)
+    c.in_ok-advance.ensures.read_all c.in_ok-advance.ensures.least
+
+pub returns-then-is_some-clause-done : goal.returns-then-is_some-clause-done
+returns-then-is_some-clause-done g c none = absurd (false≢true (sym none))
+
+pub returns-clause-done : goal.returns-clause-done
+returns-clause-done g c none =
+    ended_done (option_map (λ v. v.items) c.args.high.now) c.args.tables.now.tables c.advance.new.self.walks (c.in_ok-advance.ensures.ended c.if-branch.false)

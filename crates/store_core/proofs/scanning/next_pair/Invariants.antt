@@ -1,8 +1,9 @@
 use Rattle.std.proofs.Common.{◌+◌, ◌-◌}
 use Rattle.std.specs.Option.{option_map}
+use Rattle.std.specs.Prelude.{IsTrue}
 use Rattle.key_base.specs.Limits.{max_key_bytes}
 use Rattle.merge_rows.proofs.Rank.{height, strings}
-use Rattle.merge_rows.specs.Reads.{OnlyReads}
+use Rattle.merge_rows.specs.Reads.{OnlyReads, PassSound}
 use Rattle.store_core.proofs.ScanSteps.{IsUnderWay}
 use Rattle.store_core.proofs.scanning.next_pair.Given as goal
 
@@ -13,6 +14,7 @@ invariant-loop-rows g l =
     let after = g.D.Disk.world l.disk in
     record {
       way : IsUnderWay g.D.Disk.tells before.seen.held l.tables.tables (option_map (λ v. v.items) l.high) l.fn.rows l.rows before.seen.reads after.seen.reads;
+      passes : IsTrue g.D.Disk.tells → PassSound l.tables.tables before.seen.held l.fn.rows.walks l.rows.walks;
       moves : OnlyReads before after;
     }
 

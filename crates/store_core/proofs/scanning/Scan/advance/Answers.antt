@@ -1,8 +1,10 @@
 use Rattle.std.proofs.Common.{rules, ◌≡◌, ◌∙◌, ◌≤◌, ◌+◌, refl, sym, ap, subst, arith}
 use Rattle.std.specs.Prelude.{Some}
-use Rattle.merge_rows.specs.Reads.{blocks_left}
+use Rattle.merge_rows.proofs.SoundPasses.{pass_same}
+use Rattle.merge_rows.specs.Reads.{PassSound, blocks_left}
 use Rattle.merge_rows.specs.Steps.{AreWalksIn, numbers}
 use Rattle.store_core.proofs.ScanCauses.{no_damage, not_ended, said_of, told_as, told_block, told_scan, told_step, told_walk}
+use Rattle.store_core.proofs.ScanEnds.{ended_none}
 use Rattle.store_core.proofs.ScanSteps.{shows_bounded, shows_ended, shows_on, shows_still}
 use Rattle.store_core.specs.Faults.{of_table_fault}
 use Rattle.store_core.specs.Scans.{IsScanShown, IsWalkShown, ScanWalk, StillComes, blocks_to_come, left_behind, opened_tables, step_bound}
@@ -124,3 +126,25 @@ returns-clause-counts g c = c.left_behind-left.ensures ∙ ap (λ (w : ScanWalk)
 pub returns-clause-more : goal.returns-clause-more
 returns-clause-more g c some is =
     not_ended c.self.inside.left (sym c.has_ended.ensures ∙ c.if-has_ended.false) (ap (λ (w : ScanWalk). w.left) c.self.view_is ∙ is)
+
+-- ---- what was passed is sound, and at the end no block was left out
+
+pub returns-then-has_ended-clause-passes : goal.returns-then-has_ended-clause-passes
+returns-then-has_ended-clause-passes g c so =
+    let image = (g.D.Disk.world c.args.disk.now).seen.held in
+    subst (λ (w : ScanWalk). PassSound w.tables image w.merge.walks c.self.inside.rows.walks) c.self.view_is (pass_same c.self.inside.tables.now.tables image c.self.inside.rows.walks)
+
+pub returns-then-has_ended-clause-done : goal.returns-then-has_ended-clause-done
+returns-then-has_ended-clause-done g c none going =
+    absurd (going (ap (λ (w : ScanWalk). w.left) (sym c.self.view_is) ∙ ended_none c.self.inside.left (sym c.has_ended.ensures ∙ c.if-has_ended.true)))
+
+pub returns-in_err-found-clause-passes : goal.returns-in_err-found-clause-passes
+returns-in_err-found-clause-passes g c so =
+    subst (λ (w : ScanWalk). PassSound w.tables (g.D.Disk.world c.args.disk.now).seen.held w.merge.walks c.next_pair.new.rows.walks) c.self.view_is (c.next_pair.ensures.passes so)
+
+pub returns-clause-passes : goal.returns-clause-passes
+returns-clause-passes g c so =
+    subst (λ (w : ScanWalk). PassSound w.tables (g.D.Disk.world c.args.disk.now).seen.held w.merge.walks c.next_pair.new.rows.walks) c.self.view_is (c.next_pair.ensures.passes so)
+
+pub returns-clause-done : goal.returns-clause-done
+returns-clause-done g c none going = c.in_ok-found.ensures.done none

@@ -1,10 +1,13 @@
-use Rattle.std.proofs.Common.{◌≢◌, ◌⊎◌, ◌∙◌, [], refl, sym, ap, subst, arith}
+use Rattle.std.proofs.Common.{◌≢◌, ◌⊎◌, ◌∙◌, List, [], refl, sym, ap, subst, arith}
+use Rattle.std.specs.Prelude.{OnOk}
 use Rattle.disk_trait.proofs.Calls.{reads_none}
 use Rattle.table_model.specs.Tables.{filter_bytes_of}
 use Rattle.store_core.specs.Framing.{IsInUse, LeavesPlaces}
 use Rattle.store_core.specs.Refusing.{MayBeCompacted}
 use Rattle.store_core.proofs.Framing.{leaves_none}
+use Rattle.store_core.specs.Scans.{AreAllSound}
 use Rattle.store_core.specs.StoreValue.{IsConsistent, StoreValue}
+use Rattle.table_file.specs.Opened.{Opened}
 use Rattle.store_core.specs.declared.store.Store.TheInside.{Inside}
 use Rattle.store_core.proofs.CompactBegins.{answered_empty, answered_last, is_at_last, is_below_last, tied_without}
 use Rattle.store_core.proofs.Refusals.{fault_compacts}
@@ -110,3 +113,14 @@ returns-then-self-2-clause-frame g c = leaves_none (IsInUse c.args.self.now.mani
 pub returns-clause-frame : goal.returns-clause-frame
 returns-clause-frame g c =
     subst (λ (k : StoreValue). LeavesPlaces (IsInUse k.manifest 262144) (g.D.Disk.world c.args.disk.now) (g.D.Disk.world c.compact_all.new.disk)) c.drop_job.ensures c.compact_all.ensures.frame
+
+-- ---- each block of its tables is sound
+
+pub returns-then-holds_nothing-clause-sound : goal.returns-then-holds_nothing-clause-sound
+returns-then-holds_nothing-clause-sound g c tells =
+    let none = (c.holds_nothing.ensures.nothing c.if-holds_nothing.true).1 in
+    subst (λ (ts : List Opened). AreAllSound ts (g.D.Disk.world c.args.disk.now).seen.held) (sym (sym (ap (λ (k : StoreValue). k.tables) c.drop_job.ensures) ∙ none)) tt
+
+pub returns-clause-sound : goal.returns-clause-sound
+returns-clause-sound g c tells =
+    subst (λ (k : StoreValue). OnOk c.compact_all.result (AreAllSound k.tables (g.D.Disk.world c.args.disk.now).seen.held)) c.drop_job.ensures (c.compact_all.ensures.sound tells)

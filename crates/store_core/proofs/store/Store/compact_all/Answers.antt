@@ -4,6 +4,7 @@ use Rattle.table_model.specs.Tables.{filter_bytes_of}
 use Rattle.store_core.specs.Caching.{AreNumbered, CacheAgrees, Cached, renumbered}
 use Rattle.store_core.specs.Compacting.{FailsSo, IsHeldBy}
 use Rattle.store_core.specs.Framing.{IsInUse, LeavesPlaces}
+use Rattle.store_core.specs.Scans.{AreAllSound}
 use Rattle.store_core.specs.StoreValue.{StoreValue}
 use Rattle.store_core.proofs.Caches.{numbered_anew, true_anew}
 use Rattle.store_core.proofs.CompactAnswers.{answered_done, answered_failed, compacted_whole, entries_sound, held_by}
@@ -58,3 +59,8 @@ returns-in-Ok-clause-frame g c = subst (λ (k : StoreValue). LeavesPlaces (IsInU
 
 pub returns-in-Err-clause-frame : goal.returns-in-Err-clause-frame
 returns-in-Err-clause-frame g c = subst (λ (k : StoreValue). LeavesPlaces (IsInUse k.manifest 262144) (g.D.Disk.world c.args.disk.now) (g.D.Disk.world c.replace_all.new.disk)) c.self.view_is c.replace_all.ensures.frame
+
+-- ---- each block of its tables is sound
+
+pub returns-in-Ok-clause-sound : goal.returns-in-Ok-clause-sound
+returns-in-Ok-clause-sound g c tells = subst (λ (k : StoreValue). AreAllSound k.tables (g.D.Disk.world c.args.disk.now).seen.held) c.self.view_is (c.in-Ok.ensures.passed tells)

@@ -7,10 +7,14 @@ use Rattle.line_model.specs.Limits.{limit_of}
 use Rattle.line_model.specs.Requests.{Count}
 use Rattle.map_model.specs.Slices.{slice}
 use Rattle.map_model.specs.SortedMap.{Map}
+use Rattle.merge_rows.proofs.SoundPasses.{pass_same}
+use Rattle.merge_rows.specs.Merges.{TableWalk}
+use Rattle.merge_rows.specs.Reads.{PassSound}
 use Rattle.state_model.specs.Bounds.{seek_bound}
 use Rattle.state_model.specs.View.{state_map}
 use Rattle.store_core.proofs.ScanCauses.{reads_on}
 use Rattle.store_core.proofs.ScanCounts.{below_most, counted_all, drop_next, met_any, none_behind, none_crossed, none_pair, scan_count, scan_met, scan_shown, scan_undamaged, some_behind, step_count}
+use Rattle.store_core.proofs.ScanEnds.{more_left, passed_on}
 use Rattle.store_core.proofs.Tellings.{seen_as}
 use Rattle.store_core.proofs.Ties.{tied_read}
 use Rattle.store_core.specs.Scans.{IsScanShown, StillComes, left_behind, opened_tables}
@@ -73,6 +77,8 @@ loop-scan-init g c = record {
   left = c.in_ok-scan.ensures.made.1;
   few = omega arith;
   tables = refl;
+  high = refl;
+  passes = λ so. pass_same c.in_ok-scan.scan.tables (g.D.Disk.world c.args.disk.now).seen.held c.in_ok-scan.scan.merge.walks;
   sources = refl;
   moves = (0, reads_none 0 (g.D.Disk.world c.args.disk.now));
 }
@@ -173,6 +179,9 @@ loop-scan-preserved g c =
           ∙ ap (λ (n : ℕ). Some n) fewer;
       few = omega (arith, below);
       tables = c.advance.ensures.same.0 ∙ c.loop-scan.invariant.tables;
+      high = c.advance.ensures.high ∙ c.loop-scan.invariant.high;
+      passes = λ so. passed_on c.loop-scan.scan.tables c.in_ok-scan.scan.tables (g.D.Disk.world c.loop-scan.disk).seen.held (g.D.Disk.world c.args.disk.now).seen.held c.in_ok-scan.scan.merge.walks c.loop-scan.scan.merge.walks c.advance.new.self.merge.walks
+          c.loop-scan.invariant.tables held (c.loop-scan.invariant.passes so) (c.advance.ensures.passes so);
       sources = c.advance.ensures.same.1 ∙ c.loop-scan.invariant.sources;
       moves = reads_on (g.D.Disk.world c.args.disk.now) (g.D.Disk.world c.loop-scan.disk) (g.D.Disk.world c.advance.new.disk) c.loop-scan.invariant.moves c.advance.ensures.moves;
     }
@@ -218,3 +227,25 @@ returns-clause-crossed g c crossed = absurd (false≢true (sym c.if-is_crossed.f
 
 pub returns-clause-limited : goal.returns-clause-limited
 returns-clause-limited g c broken = absurd (broken c.in_ok-scan.ensures.refused.1)
+
+-- ---- what was counted is sound
+
+pub returns-then-is_crossed-clause-sound : goal.returns-then-is_crossed-clause-sound
+returns-then-is_crossed-clause-sound g c so straight = absurd (false≢true (sym straight ∙ sym c.is_crossed.ensures ∙ c.if-is_crossed.true))
+
+pub returns-clause-sound : goal.returns-clause-sound
+returns-clause-sound g c so straight =
+    let image = (g.D.Disk.world c.args.disk.now).seen.held in
+    let first = c.in_ok-scan.scan in
+    let made = c.in_ok-scan.ensures.made.0 in
+    let begins = c.in_ok-scan.ensures.begins in
+    let passes = passed_on c.loop-scan.scan.tables first.tables (g.D.Disk.world c.loop-scan.disk).seen.held image first.merge.walks c.loop-scan.scan.merge.walks c.advance.new.self.merge.walks
+    c.loop-scan.invariant.tables c.loop-scan.invariant.moves.1.held (c.loop-scan.invariant.passes so) (c.advance.ensures.passes so) in
+    record {
+      walked = c.advance.new.self;
+      tables_are = c.advance.ensures.same.0 ∙ c.loop-scan.invariant.tables ∙ made;
+      high_is = c.advance.ensures.high ∙ c.loop-scan.invariant.high ∙ begins.0;
+      passes = subst (λ (walks : List TableWalk). PassSound c.args.self.now.tables image walks c.advance.new.self.merge.walks) begins.1
+          (subst (λ (ts : List Opened). PassSound ts image first.merge.walks c.advance.new.self.merge.walks) made passes);
+      done = λ few. c.in_ok-advance.ensures.done c.if-branch.false (more_left c.loop-scan.scan.left c.loop-scan.count c.loop-scan.invariant.left few);
+    }

@@ -1,7 +1,7 @@
 use Rattle.std.proofs.Common.{◌≡◌, ◌≤◌, ◌+◌, ◌-◌, length, drop}
 use Rattle.std.specs.Prelude.{IsTrue, Some}
 use Rattle.map_model.specs.SortedMap.{Map}
-use Rattle.merge_rows.specs.Reads.{OnlyReads}
+use Rattle.merge_rows.specs.Reads.{OnlyReads, PassSound}
 use Rattle.store_core.specs.Scans.{StillComes, blocks_to_come, opened_tables}
 use Rattle.store_core.proofs.store.Store.count.Given as goal
 
@@ -17,6 +17,8 @@ invariant-loop-scan g l =
       left : l.scan.left ≡ Some (18446744073709551615 - l.count);
       few : l.count ≤ 18446744073709551615;
       tables : l.scan.tables ≡ l.initial.scan.tables;
+      high : l.scan.high ≡ l.initial.scan.high;
+      passes : IsTrue g.D.Disk.tells → PassSound l.initial.scan.tables before.seen.held l.initial.scan.merge.walks l.scan.merge.walks;
       sources : opened_tables l.scan ≡ opened_tables l.initial.scan;
       moves : OnlyReads before after;
     }

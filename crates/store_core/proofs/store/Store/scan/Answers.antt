@@ -3,7 +3,7 @@ use Rattle.std.specs.Option.{option_map}
 use Rattle.std.specs.Prelude.{Option, Some}
 use Rattle.map_model.specs.SortedMap.{Bytes}
 use Rattle.store_core.proofs.Countings.{tables_few}
-use Rattle.store_core.proofs.ScanBlocks.{made_blocks}
+use Rattle.store_core.proofs.ScanBlocks.{made_blocks, made_walks}
 use Rattle.store_core.proofs.ScanMade.{made_bounded, made_met, made_numbers, made_scan, made_shows, memory_sound, scan_is, there}
 use Rattle.store_core.specs.Scans.{numbers_admitting}
 use Rattle.store_core.specs.Telling.{IsHighOfBytes}
@@ -62,3 +62,12 @@ returns-clause-blocks g c =
     let is = scan_is low high c.args.self.now _ c.in_ok-which.which.items c.in_ok-rows.rows (option_map (λ v. v.items) c.in_ok-copy.copy) c.args.most c.self.view_is
     (c.in_ok-which.ensures ∙ ap (numbers_admitting low high) c.as_slice.ensures) c.in_ok-rows.ensures c.in_ok-copy.ensures in
     made_blocks low high c.args.self.now.tables c.args.self.now.memory.entries _ c.args.most is
+
+-- as it is made
+pub returns-clause-begins : goal.returns-clause-begins
+returns-clause-begins g c =
+    let low = c.args.low.now in
+    let high = option_map (λ h. h.now) c.args.high in
+    let is = scan_is low high c.args.self.now _ c.in_ok-which.which.items c.in_ok-rows.rows (option_map (λ v. v.items) c.in_ok-copy.copy) c.args.most c.self.view_is
+    (c.in_ok-which.ensures ∙ ap (numbers_admitting low high) c.as_slice.ensures) c.in_ok-rows.ensures c.in_ok-copy.ensures in
+    made_walks low high c.args.self.now.tables c.args.self.now.memory.entries _ c.args.most is

@@ -4,8 +4,11 @@ use Rattle.std.specs.List.Sorted.{IsPermutation}
 use Rattle.byte_fields.specs.declared.parts.Row.{Row}
 use Rattle.level_merge.specs.Follows.{FollowsAnyJob}
 use Rattle.level_merge.specs.JobValue.{work_left}
+use Rattle.level_merge.specs.SliceSteps.{ReadyAtEnd}
 use Rattle.level_merge.specs.declared.fault.Sliced.{Sliced}
 use Rattle.level_merge.specs.declared.fault.Sliced.TheVariants as sliced
+use Rattle.merge_rows.proofs.SoundPasses.{pass_same}
+use Rattle.merge_rows.specs.Reads.{PassSound}
 use Rattle.merge_rows.specs.Steps.{IsSoundMerge}
 use Rattle.table_file.specs.Opened.{Opened}
 use Rattle.table_model.specs.Tables.{filter_bytes_of}
@@ -123,3 +126,15 @@ returns-clause-no_room g c =
     let extents = subst (λ (k : StoreValue). IsPermutation (extents_with k.manifest.version old.outputs) free.extents) c.self.view_is
     (subst (λ (rows : List Row). IsPermutation (extents_with c.self.inside.version.version rows) free.extents) c.outputs.ensures c.in_ok-extents.ensures.extents) in
     room_beside (filter_bytes_of g.F.RangeFilter.spelling g.F.RangeFilter.built_cutoff) old.settings v old.outputs free.pages free.extents pages extents c.slice.result c.slice.ensures.slices.no_room
+
+-- ---- what was passed is sound
+
+pub returns-in_err-extents-clause-passes : goal.returns-in_err-extents-clause-passes
+returns-in_err-extents-clause-passes g c tells = pass_same c.args.self.now.tables (g.D.Disk.world c.args.disk.now).seen.held c.args.job.now.merge.walks
+
+pub returns-clause-passes : goal.returns-clause-passes
+returns-clause-passes g c tells =
+    subst (λ (k : StoreValue). PassSound k.tables (g.D.Disk.world c.args.disk.now).seen.held c.args.job.now.merge.walks c.slice.new.self.merge.walks) c.self.view_is (c.slice.ensures.slices.passes tells)
+
+pub returns-clause-done : goal.returns-clause-done
+returns-clause-done g c = subst (λ (k : StoreValue). IfOk c.slice.result (ReadyAtEnd k.tables c.slice.new.self)) c.self.view_is c.slice.ensures.slices.done

@@ -11,7 +11,7 @@ use Rattle.store_core.specs.declared.tending.Tended.TheVariants as tended
 use Rattle.store_core.specs.Framing.{IsInUse, LeavesPlaces}
 use Rattle.store_core.proofs.FlushAnswers.{passed_on}
 use Rattle.store_core.proofs.Framing.{leaves_none}
-use Rattle.store_core.proofs.SliceWork.{of_taken}
+use Rattle.store_core.proofs.SliceWork.{of_taken, sound_of_taken}
 use Rattle.store_core.proofs.Stays.{slice_left, without_merge}
 use Rattle.store_core.proofs.TendAnswers.{idles, none_begun, taken_up}
 use Rattle.store_core.proofs.TendRooms.{room_of_taken}
@@ -80,6 +80,11 @@ returns-in-Some-clause-stays g c =
 pub returns-in-Some-clause-worked : goal.returns-in-Some-clause-worked
 returns-in-Some-clause-worked g c =
     of_taken c.args.self.now c.take_job.new.self c.work.new.self c.in-Some.job c.work.result c.take_job.ensures.rest (subst (IsMergeTakenOut c.args.self.now) c.in-Some.is c.in_ok-job.ensures.taken_up) c.work.ensures.worked
+
+pub returns-in-Some-clause-sound : goal.returns-in-Some-clause-sound
+returns-in-Some-clause-sound g c tells =
+    sound_of_taken c.args.self.now c.take_job.new.self c.work.new.self (g.D.Disk.world c.args.disk.now).seen.held c.in-Some.job c.work.result c.take_job.ensures.rest
+    (subst (IsMergeTakenOut c.args.self.now) c.in-Some.is c.in_ok-job.ensures.taken_up) (c.work.ensures.sound tells)
 
 pub returns-in-Some-clause-no_room : goal.returns-in-Some-clause-no_room
 returns-in-Some-clause-no_room g c =

@@ -1,5 +1,6 @@
 use Rattle.std.proofs.Common.{inl, inr, ◌*◌, List, refl, sym, ap, subst, arith}
 use Rattle.std.specs.Prelude.{IfErr, IfOk, Some, Result, Ok}
+use Rattle.level_merge.specs.SliceSteps.{ReadyAtEnd}
 use Rattle.level_merge.specs.declared.fault.Sliced.{Sliced}
 use Rattle.state_model.proofs.SoundJobs.{drop_sound}
 use Rattle.state_model.specs.State.{without_job}
@@ -9,7 +10,7 @@ use Rattle.table_model.specs.Tables.{filter_bytes_of}
 use Rattle.store_core.specs.Answers.{stopped_by}
 use Rattle.store_core.specs.StoreValue.{StoreValue}
 use Rattle.store_core.specs.Scans.{IsScanShown}
-use Rattle.store_core.specs.Tending.{IsWithoutRoomOf, IsWorkOf, SlicesJob, Tends, told_slice}
+use Rattle.store_core.specs.Tending.{IsSoundWorkOf, IsWithoutRoomOf, IsWorkOf, SlicesJob, Tends, told_slice}
 use Rattle.store_core.specs.declared.error.StoreError.{StoreError}
 use Rattle.store_core.specs.declared.tending.Tended.{Tended}
 use Rattle.store_core.specs.declared.tending.Tended.TheVariants as tended
@@ -17,7 +18,7 @@ use Rattle.store_core.proofs.Agreed.{tied_agree}
 use Rattle.store_core.specs.Framing.{IsInUse}
 use Rattle.store_core.proofs.FlushAnswers.{passed_on}
 use Rattle.store_core.proofs.Framing.{leaves_then}
-use Rattle.store_core.proofs.SliceWork.{no_work}
+use Rattle.store_core.proofs.SliceWork.{no_sound_work, no_work}
 use Rattle.store_core.proofs.Stays.{install_stays, refused_slice}
 use Rattle.store_core.proofs.TendAnswers.{installs_it, not_installed, slice_refused, tied_none, works_on}
 use Rattle.store_core.proofs.TendRefusals.{both_moved, slice_shown}
@@ -171,3 +172,31 @@ returns-in_err-install_merge-in-Ok-Ready-clause-frame g c = leaves_then (IsInUse
 
 pub returns-in-Err-clause-frame : goal.returns-in-Err-clause-frame
 returns-in-Err-clause-frame g c = c.slice_job.ensures.frame
+
+-- ---- what the merge passed is sound
+
+pub returns-in-Ok-Working-clause-sound : goal.returns-in-Ok-Working-clause-sound
+returns-in-Ok-Working-clause-sound g c tells = record {
+  later = c.slice_job.new.job;
+  passes = c.slice_job.ensures.passes tells;
+  done = inl refl;
+}
+
+pub returns-in_ok-install_merge-in-Ok-Ready-clause-sound : goal.returns-in_ok-install_merge-in-Ok-Ready-clause-sound
+returns-in_ok-install_merge-in-Ok-Ready-clause-sound g c tells =
+    let m = c.slice_job.new.job in
+    record {
+      later = m;
+      passes = c.slice_job.ensures.passes tells;
+      done = inr (c.in_ok-install_merge-in-Ok-Ready.ensures.installed.no_job, subst (λ (x : Sliced). ReadyAtEnd c.args.self.now.tables m x) c.in-Ok-Ready.field-0-is c.in-Ok-Ready.ensures.done);
+    }
+
+pub returns-in_err-install_merge-in-Ok-Ready-clause-sound : goal.returns-in_err-install_merge-in-Ok-Ready-clause-sound
+returns-in_err-install_merge-in-Ok-Ready-clause-sound g c tells =
+    subst (λ (r : Result Tended StoreError). IfOk r (IsSoundWorkOf c.args.self.now (g.D.Disk.world c.args.disk.now).seen.held c.args.job c.install_merge.new.self))
+    (passed_on c.from_residual.result c.in_err-install_merge-in-Ok-Ready.field-0.0 c.from_residual.ensures.1) tt
+
+pub returns-in-Err-clause-sound : goal.returns-in-Err-clause-sound
+returns-in-Err-clause-sound g c tells =
+    let image = (g.D.Disk.world c.args.disk.now).seen.held in
+    subst (λ (r : Result Tended StoreError). IfOk r (IsSoundWorkOf c.args.self.now image c.args.job c.refuse.new.self)) (sym c.refuse.ensures.answer) (no_sound_work c.args.self.now c.refuse.new.self image c.args.job c.in-Err.why)
