@@ -69,10 +69,11 @@ impl Index {
         self.blocks.row(n as usize).last.as_slice()
     }
 
-    /// The page of the device at which the block number `n` begins.
+    /// The page of the device at which the block number `n` begins. The blocks lie within the largest device.
     pub fn first_page(&self, n: u32) -> u64
         requires { n < length self.now.index.rows }
-        ensures { result ≡ self.now.row.first_page + row_pages (take n self.now.index.rows) }
+        ensures page { result ≡ self.now.row.first_page + row_pages (take n self.now.index.rows) }
+        ensures inside { IsIndexOfRow self.now }
     {
         u64::from(self.row.first_page) + self.blocks.row(n as usize).first
     }
