@@ -1,4 +1,5 @@
 //! The bytes of a version's body, as the format has them.
+use crate::asserts::{check_same, check_that};
 use byte_fields::Row;
 use manifest_model::{Version, body_bytes};
 use std::alloc::Global;
@@ -23,10 +24,11 @@ fn the_body_after_a_format(rt: HostRuntime) -> Result<(), Fail> {
         0x53, 0x52, 0x46, 0x4D, 2, 0, 0, 0, 1, 0, 0, 0, 0, 0, 0, 0, 0, 2, 0, 0, 0, 0, 0x40, 0,
         0x40, 0, 0, 0, 0x40, 0, 0, 0,
     ];
-    assert_eq!(rt; bytes.len(), 72);
-    assert!(rt; bytes.as_slice().starts_with(front.as_slice()));
-    assert!(rt;
-        bytes.as_slice().ends_with([0xF8, 0x2D, 0xC8, 0xE6, 0x65, 0x4F, 0xF8, 0x95].as_slice())
+    check_same(&rt, &bytes.len(), &72);
+    check_that(&rt, bytes.as_slice().starts_with(front.as_slice()));
+    check_that(
+        &rt,
+        bytes.as_slice().ends_with([0xF8, 0x2D, 0xC8, 0xE6, 0x65, 0x4F, 0xF8, 0x95].as_slice()),
     );
     Ok(())
 }
@@ -39,12 +41,14 @@ fn the_head_of_another_variant(rt: HostRuntime) -> Result<(), Fail> {
     version.real_bits = 3;
     version.ratio = 16;
     let bytes = body_bytes(rt.alloc(), 2, &version)?;
-    assert_eq!(rt;
-        bytes.as_slice().get(20..24),
-        Some([4, 3, 0x10, 0].as_slice())
+    check_same(
+        &rt,
+        &bytes.as_slice().get(20..24),
+        &Some([4, 3, 0x10, 0].as_slice()),
     );
-    assert!(rt;
-        bytes.as_slice().ends_with([0x8D, 0x46, 0x42, 0xEF, 0x05, 0xFD, 0x8D, 0x77].as_slice())
+    check_that(
+        &rt,
+        bytes.as_slice().ends_with([0x8D, 0x46, 0x42, 0xEF, 0x05, 0xFD, 0x8D, 0x77].as_slice()),
     );
     Ok(())
 }
@@ -76,14 +80,15 @@ fn a_row_of_a_merged_table(rt: HostRuntime) -> Result<(), Fail> {
     version.rows.push(merged())?;
     let bytes = body_bytes(rt.alloc(), 2, &version)?;
     let front = [0x53, 0x52, 0x46, 0x4D, 2, 0, 1, 0, 6, 0, 0, 0, 0, 0, 0, 0];
-    assert_eq!(rt; bytes.len(), 136);
-    assert!(rt; bytes.as_slice().starts_with(front.as_slice()));
-    assert_eq!(rt; bytes.as_slice().get(68), Some(&204));
-    assert!(rt;
+    check_same(&rt, &bytes.len(), &136);
+    check_that(&rt, bytes.as_slice().starts_with(front.as_slice()));
+    check_same(&rt, &bytes.as_slice().get(68), &Some(&204));
+    check_that(
+        &rt,
         bytes.as_slice().ends_with([
-            8, 3, 7, 0, 0, 0, 0, 0, 0xFF, 0x5B, 0x42, 0xD1, 0x63, 0x8F, 0x7D, 0x6E
+            8, 3, 7, 0, 0, 0, 0, 0, 0xFF, 0x5B, 0x42, 0xD1, 0x63, 0x8F, 0x7D, 0x6E,
         ]
-        .as_slice())
+        .as_slice()),
     );
     Ok(())
 }

@@ -1,10 +1,12 @@
 //! Formats and installs that fail or are cut short.
+use crate::asserts::{check_same, check_same_at, check_that_at};
 use crate::disks::{base, boxed, install_tables, loaded_with, table};
 use byte_fields::Row;
 use disk_mem::{Choice, MemDisk};
 use disk_trait::{DiskFault, Op};
 use manifest::{ManifestFault, format, load};
 use std::alloc::{AllocError, Global};
+use std::process::Abort;
 use std::test::Fail;
 
 // The tables of the third version; the second has the first of them, and the first has none.
@@ -66,12 +68,33 @@ enum Left {
 
 // The first half of what was written at a place, and bytes 07 behind it.
 fn half(alloc: Global, disk: &MemDisk, at: usize, length: usize) -> Result<Vec<u8>, AllocError> {
-    let mut bytes = vec![in alloc; 7; length]?;
-    let written = disk.bytes().iter().skip(at).take(length / 2);
-    for (byte, other) in bytes.iter_mut().zip(written) {
-        *byte = *other;
-    }
+    let written = disk.bytes().get(at..).unwrap_or(b"");
+    let first = written.get(..length / 2).unwrap_or(written);
+    let mut bytes = Vec::from_slice(alloc, first)?;
+    bytes.resize(length, 7)?;
     Ok(bytes)
+}
+
+// The choice that leaves this of a write of so many bytes at a place.
+fn choice_of(
+    alloc: Global,
+    disk: &MemDisk,
+    at: usize,
+    length: usize,
+    left: Left,
+) -> Result<Choice, AllocError> {
+    match left {
+        Left::Whole => Ok(Choice::Whole),
+        Left::Lost => Ok(Choice::Lost),
+        Left::All(byte) => Ok(Choice::Bytes(vec![in alloc; byte; length]?)),
+        Left::Half => Ok(Choice::Bytes(half(alloc, disk, at, length)?)),
+    }
+}
+
+// The epoch that is loaded behind a crash that leaves this of the last write.
+fn epoch_behind(alloc: Global, disk: &MemDisk, choice: Choice) -> Result<u64, Fail> {
+    let mut left = crashed(alloc, disk, choice)?;
+    epoch_of(alloc, &mut left)
 }
 
 // Three versions, of which the sync after a write of so many bytes at a place fails, and then a crash, which leaves this of
@@ -85,14 +108,7 @@ fn after_a_crash(
 ) -> Result<u64, Fail> {
     let mut disk = failing(alloc, call)?;
     three_versions(alloc, &mut disk)?;
-    let choice = match left {
-        Left::Whole => Choice::Whole,
-        Left::Lost => Choice::Lost,
-        Left::All(byte) => Choice::Bytes(vec![in alloc; byte; length]?),
-        Left::Half => Choice::Bytes(half(alloc, &disk, at, length)?),
-    };
-    let mut left = crashed(alloc, &disk, choice)?;
-    epoch_of(alloc, &mut left)
+    epoch_behind(alloc, &disk, choice_of(alloc, &disk, at, length, left)?)
 }
 
 #[test]
@@ -111,17 +127,19 @@ fn every_write_left_in_every_way(rt: HostRuntime) -> Result<(), Fail> {
     ];
     for (call, at, length, with, without) in rows {
         for left in [Left::Whole, Left::All(1)] {
-            assert_eq!(rt;
-                after_a_crash(alloc, call, at, length, left)?,
-                with,
-                "call {call}"
+            check_same_at(
+                &rt,
+                &call,
+                &after_a_crash(alloc, call, at, length, left)?,
+                &with,
             );
         }
         for left in [Left::Lost, Left::All(7), Left::Half] {
-            assert_eq!(rt;
-                after_a_crash(alloc, call, at, length, left)?,
-                without,
-                "call {call}"
+            check_same_at(
+                &rt,
+                &call,
+                &after_a_crash(alloc, call, at, length, left)?,
+                &without,
             );
         }
     }
@@ -159,27 +177,42 @@ const CALLS: [(Op, u64); 27] = [
     (Op::Sync, 0),
 ];
 
+// What is loaded behind a crash is a version that was done, or the next one where it is whole.
+fn check_left(
+    rt: &impl Abort,
+    alloc: Global,
+    disk: &MemDisk,
+    call: u64,
+    done: u64,
+) -> Result<(), Fail> {
+    let lost = epoch_behind(alloc, disk, Choice::Lost)?;
+    check_same_at(rt, &call, &lost, &done);
+    let whole = epoch_behind(alloc, disk, Choice::Whole)?;
+    check_that_at(rt, &call, whole == done || whole == done.saturating_add(1));
+    Ok(())
+}
+
+// The call of this number fails, by itself and before a crash.
+fn check_call(rt: &impl Abort, alloc: Global, call: u64, fault: DiskFault) -> Result<(), Fail> {
+    let mut disk = failing(alloc, call)?;
+    let (done, found) = three_versions(alloc, &mut disk)?;
+    check_same_at(rt, &call, &found, &Some(ManifestFault::Device(fault)));
+    check_left(rt, alloc, &disk, call, done)
+}
+
 #[test]
 fn every_call_fails_in_turn(rt: HostRuntime) -> Result<(), Fail> {
-    let alloc = rt.alloc();
-    for (call, (op, at)) in CALLS.iter().copied().enumerate() {
-        let mut disk = failing(alloc, call as u64)?;
-        let (done, fault) = three_versions(alloc, &mut disk)?;
-        assert_eq!(rt;
-            fault,
-            Some(ManifestFault::Device(DiskFault { op, at })),
-            "call {call}"
-        );
-        let mut lost = crashed(alloc, &disk, Choice::Lost)?;
-        assert_eq!(rt; epoch_of(alloc, &mut lost)?, done, "call {call}");
-        let mut whole = crashed(alloc, &disk, Choice::Whole)?;
-        let epoch = epoch_of(alloc, &mut whole)?;
-        assert!(rt;
-            epoch == done || epoch == done.saturating_add(1),
-            "call {call}"
-        );
+    let mut call = 0u64;
+    for (op, at) in CALLS {
+        check_call(&rt, rt.alloc(), call, DiskFault { op, at })?;
+        call = call.saturating_add(1);
     }
-    let mut disk = failing(alloc, CALLS.len() as u64)?;
-    assert_eq!(rt; three_versions(alloc, &mut disk)?, (3, None));
+    Ok(())
+}
+
+#[test]
+fn no_further_call_fails(rt: HostRuntime) -> Result<(), Fail> {
+    let mut disk = failing(rt.alloc(), CALLS.len() as u64)?;
+    check_same(&rt, &three_versions(rt.alloc(), &mut disk)?, &(3, None));
     Ok(())
 }

@@ -1,4 +1,5 @@
 //! What is wrong with slots, and where.
+use crate::asserts::check_same;
 use crate::disks::{formatted, new_disk, store, table, version_of};
 use byte_fields::{Damage, Part, Row, fnv1a};
 use disk_mem::MemDisk;
@@ -20,6 +21,27 @@ fn shape(at: u64, rule: u8) -> Option<ManifestFault> {
     Some(ManifestFault::Damaged(Damage::Shape { part, at, rule }))
 }
 
+// Sets the byte at a place, if there is one.
+fn set_byte(bytes: &mut [u8], place: usize, value: u8) {
+    if let Some(byte) = bytes.get_mut(place) {
+        *byte = value;
+    }
+}
+
+// Sets bytes from a place on.
+fn overwrite(bytes: &mut [u8], place: usize, others: &[u8]) {
+    for i in 0..others.len() {
+        set_byte(bytes, place.saturating_add(i), others[i]);
+    }
+}
+
+// Sets the bytes at some places.
+fn change(bytes: &mut [u8], changes: &[(usize, u8)]) {
+    for (place, value) in changes {
+        set_byte(bytes, *place, *value);
+    }
+}
+
 // The fault of a new store whose body has other bytes from a place on, with the sum of these or with that of the old ones.
 fn changed(
     alloc: Global,
@@ -30,9 +52,7 @@ fn changed(
     let mut disk = formatted(alloc)?;
     let mut head = [0; 64];
     let mut done = disk.read(8, &mut head).is_ok();
-    for (byte, other) in head.iter_mut().skip(place).zip(bytes) {
-        *byte = *other;
-    }
+    overwrite(&mut head, place, bytes);
     done = done && disk.write(8, &head).is_ok();
     if mend {
         done = done && disk.write(72, &fnv1a(&head).to_le_bytes()).is_ok();
@@ -61,7 +81,7 @@ fn each_rule_of_a_head_at_its_place(rt: HostRuntime) -> Result<(), Fail> {
         (32, &[1], true, 40, 7),
     ];
     for (place, bytes, mend, at, rule) in rows {
-        assert_eq!(rt; changed(alloc, place, bytes, mend)?, shape(at, rule));
+        check_same(&rt, &changed(alloc, place, bytes, mend)?, &shape(at, rule));
     }
     Ok(())
 }
@@ -84,9 +104,10 @@ fn another_sum_comes_before_the_later_rules(rt: HostRuntime) -> Result<(), Fail>
             kept,
             seen,
         };
-        assert_eq!(rt;
-            changed(alloc, place, bytes, false)?,
-            Some(ManifestFault::Damaged(sums))
+        check_same(
+            &rt,
+            &changed(alloc, place, bytes, false)?,
+            &Some(ManifestFault::Damaged(sums)),
         );
     }
     Ok(())
@@ -108,11 +129,7 @@ fn change_body(
     let mut bytes = [0; 192];
     let front = &mut bytes[..length.min(192)];
     disk.read(8, front)?;
-    for (place, other) in changes {
-        for byte in front.iter_mut().skip(*place).take(1) {
-            *byte = *other;
-        }
-    }
+    change(front, changes);
     let sum = fnv1a(front).to_le_bytes();
     disk.write(8, front)?;
     disk.write(8 + front.len() as u64, &sum)
@@ -142,10 +159,14 @@ fn changed_body(alloc: Global, changes: &[(usize, u8)]) -> Result<Option<Manifes
 fn bytes_of_a_row_that_must_be_0(rt: HostRuntime) -> Result<(), Fail> {
     let alloc = rt.alloc();
     for (place, at) in [(65, 73), (66, 74), (67, 75), (124, 132), (127, 135)] {
-        assert_eq!(rt; changed_body(alloc, &[(place, 1)])?, shape(at, 7));
+        check_same(&rt, &changed_body(alloc, &[(place, 1)])?, &shape(at, 7));
     }
-    assert_eq!(rt; changed_body(alloc, &[(65, 1), (124, 1)])?, shape(73, 7));
-    assert_eq!(rt; changed_body(alloc, &[(64, 1)])?, None);
+    check_same(
+        &rt,
+        &changed_body(alloc, &[(65, 1), (124, 1)])?,
+        &shape(73, 7),
+    );
+    check_same(&rt, &changed_body(alloc, &[(64, 1)])?, &None);
     Ok(())
 }
 
@@ -161,9 +182,9 @@ fn the_settings_of_a_row(rt: HostRuntime) -> Result<(), Fail> {
         (&[(120, 33), (65, 1)], 128),
     ];
     for (changes, at) in rows {
-        assert_eq!(rt; changed_body(alloc, changes)?, shape(at, 5));
+        check_same(&rt, &changed_body(alloc, changes)?, &shape(at, 5));
     }
-    assert_eq!(rt; changed_body(alloc, &[(122, 0xFF)])?, None);
+    check_same(&rt, &changed_body(alloc, &[(122, 0xFF)])?, &None);
     Ok(())
 }
 
@@ -173,19 +194,19 @@ fn the_settings_of_each_row_come_first(rt: HostRuntime) -> Result<(), Fail> {
     let alloc = rt.alloc();
     let rows = [table(0, 195), table(0, 192)];
     let told = changed_rows(alloc, &rows, &[(184, 33), (65, 1)])?;
-    assert_eq!(rt; told, shape(192, 5));
-    assert_eq!(rt; changed_rows(alloc, &rows, &[(65, 1)])?, shape(73, 7));
+    check_same(&rt, &told, &shape(192, 5));
+    check_same(&rt, &changed_rows(alloc, &rows, &[(65, 1)])?, &shape(73, 7));
     Ok(())
 }
 
 #[test]
 fn a_body_has_one_of_two_formats(rt: HostRuntime) -> Result<(), Fail> {
     let alloc = rt.alloc();
-    for change in [(4, 3), (4, 0), (5, 1)] {
-        assert_eq!(rt; changed_body(alloc, &[change])?, shape(12, 2));
+    for (place, value) in [(4, 3), (4, 0), (5, 1)] {
+        check_same(&rt, &changed_body(alloc, &[(place, value)])?, &shape(12, 2));
     }
-    assert_eq!(rt; changed_body(alloc, &[(4, 1)])?, shape(130, 7));
-    assert_eq!(rt; changed_body(alloc, &[(4, 1), (122, 0)])?, None);
+    check_same(&rt, &changed_body(alloc, &[(4, 1)])?, &shape(130, 7));
+    check_same(&rt, &changed_body(alloc, &[(4, 1), (122, 0)])?, &None);
     Ok(())
 }
 
@@ -218,7 +239,7 @@ fn each_field_of_blocks_and_index(rt: HostRuntime) -> Result<(), Fail> {
         ),
     ];
     for (row, at) in rows {
-        assert_eq!(rt; with_tables(alloc, &[row])?, shape(at, 8));
+        check_same(&rt, &with_tables(alloc, &[row])?, &shape(at, 8));
     }
     Ok(())
 }
@@ -251,7 +272,7 @@ fn each_field_of_filter_and_entries(rt: HostRuntime) -> Result<(), Fail> {
         ),
     ];
     for (row, at) in rows {
-        assert_eq!(rt; with_tables(alloc, &[row])?, shape(at, 8));
+        check_same(&rt, &with_tables(alloc, &[row])?, &shape(at, 8));
     }
     Ok(())
 }
@@ -276,7 +297,7 @@ fn where_tables_stand(rt: HostRuntime) -> Result<(), Fail> {
         ),
     ];
     for (tables, fault) in rows {
-        assert_eq!(rt; with_tables(alloc, tables)?, fault);
+        check_same(&rt, &with_tables(alloc, tables)?, &fault);
     }
     Ok(())
 }
@@ -290,7 +311,7 @@ fn more_tables_than_a_version_may_have(rt: HostRuntime) -> Result<(), Fail> {
     }
     let mut disk = new_disk(alloc)?;
     store(alloc, &mut disk, 131_072, &version)?;
-    assert_eq!(rt; fault_of(alloc, &mut disk), shape(131_086, 3));
+    check_same(&rt, &fault_of(alloc, &mut disk), &shape(131_086, 3));
     Ok(())
 }
 
@@ -308,11 +329,11 @@ fn both(alloc: Global, a: u64, b: u64) -> Result<Result<u64, ManifestFault>, Fai
 #[test]
 fn two_open_slots(rt: HostRuntime) -> Result<(), Fail> {
     let alloc = rt.alloc();
-    assert_eq!(rt; both(alloc, 1, 2)?, Ok(2));
-    assert_eq!(rt; both(alloc, 3, 2)?, Ok(3));
-    assert_eq!(rt; both(alloc, 7, 7)?.err(), shape(131_088, 11));
-    assert_eq!(rt; both(alloc, 0, 7)?.err(), shape(16, 4));
-    assert_eq!(rt; both(alloc, 7, 0)?.err(), shape(131_088, 4));
-    assert_eq!(rt; both(alloc, 0, 0)?.err(), shape(16, 4));
+    check_same(&rt, &both(alloc, 1, 2)?, &Ok(2));
+    check_same(&rt, &both(alloc, 3, 2)?, &Ok(3));
+    check_same(&rt, &both(alloc, 7, 7)?.err(), &shape(131_088, 11));
+    check_same(&rt, &both(alloc, 0, 7)?.err(), &shape(16, 4));
+    check_same(&rt, &both(alloc, 7, 0)?.err(), &shape(131_088, 4));
+    check_same(&rt, &both(alloc, 0, 0)?.err(), &shape(16, 4));
     Ok(())
 }

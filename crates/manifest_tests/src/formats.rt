@@ -1,10 +1,12 @@
 //! Two slots, each of which has a body in a format of its own.
+use crate::asserts::{check_same, check_that, check_that_at};
 use crate::disks::{install_again, new_disk, store_in, table, version_of};
 use byte_fields::Row;
 use disk_mem::MemDisk;
 use manifest::load;
 use manifest_model::Version;
 use std::alloc::Global;
+use std::process::Abort;
 use std::test::Fail;
 use test_kit::{Left, failing, left_by};
 
@@ -68,23 +70,42 @@ fn stands(disk: &MemDisk, slot: usize, place: usize, bytes: &[u8]) -> bool {
 
 // Whether a slot has the same bytes on both disks.
 fn same_slot(disk: &MemDisk, first: &MemDisk, slot: usize) -> bool {
-    let bytes = disk.bytes().iter().skip(slot).take(SLOT_B);
-    bytes.eq(first.bytes().iter().skip(slot).take(SLOT_B))
+    slot_of(disk, slot) == slot_of(first, slot)
+}
+
+// The bytes of a slot.
+fn slot_of(disk: &MemDisk, slot: usize) -> &[u8] {
+    let bytes = disk.bytes().get(slot..).unwrap_or(b"");
+    bytes.get(..SLOT_B).unwrap_or(bytes)
+}
+
+// The row of the install in a slot, by the bytes of format 2.
+fn check_slot(rt: &impl Abort, disk: &MemDisk, slot: usize) {
+    check_that(rt, stands(disk, slot, 8, b"SRFM\x02\x00\x01\x00\x07"));
+    check_that(rt, stands(disk, slot, 28, &MIXED[..4]));
+    check_that(rt, stands(disk, slot, 128, &MIXED));
+}
+
+fn check_install(
+    rt: &impl Abort,
+    alloc: Global,
+    case: (u16, u16, usize, usize),
+) -> Result<(), Fail> {
+    let (a, b, newer, other) = case;
+    let first = two_slots(alloc, a, b, newer)?;
+    let mut disk = two_slots(alloc, a, b, newer)?;
+    check_same(rt, &epoch_of(alloc, &mut disk)?, &6);
+    check_same(rt, &install_again(alloc, &mut disk), &Ok(()));
+    check_slot(rt, &disk, other);
+    check_that(rt, same_slot(&disk, &first, newer));
+    check_same(rt, &epoch_of(alloc, &mut disk)?, &7);
+    Ok(())
 }
 
 #[test]
 fn an_install_stands_in_format_2(rt: HostRuntime) -> Result<(), Fail> {
-    let alloc = rt.alloc();
-    for (a, b, newer, other) in CASES {
-        let first = two_slots(alloc, a, b, newer)?;
-        let mut disk = two_slots(alloc, a, b, newer)?;
-        assert_eq!(rt; epoch_of(alloc, &mut disk)?, 6);
-        assert_eq!(rt; install_again(alloc, &mut disk), Ok(()));
-        assert!(rt; stands(&disk, other, 8, b"SRFM\x02\x00\x01\x00\x07"));
-        assert!(rt; stands(&disk, other, 28, &MIXED[..4]));
-        assert!(rt; stands(&disk, other, 128, &MIXED));
-        assert!(rt; same_slot(&disk, &first, newer));
-        assert_eq!(rt; epoch_of(alloc, &mut disk)?, 7);
+    for case in CASES {
+        check_install(&rt, rt.alloc(), case)?;
     }
     Ok(())
 }
@@ -105,18 +126,28 @@ fn after_a_crash(
     epoch_of(alloc, &mut *left_by(alloc, &disk, left)?)
 }
 
+// A call fails, and the write that stood before it is left in each way.
+fn check_stop(
+    rt: &impl Abort,
+    alloc: Global,
+    case: (u16, u16, usize, usize),
+    call: u64,
+) -> Result<(), Fail> {
+    let whole = after_a_crash(alloc, case, call, Left::Whole)?;
+    let last = if call == 11 { 7 } else { 6 };
+    check_that_at(rt, &call, whole == last || (call == 10 && whole == 7));
+    check_same(rt, &after_a_crash(alloc, case, call, Left::Lost)?, &6);
+    check_same(rt, &after_a_crash(alloc, case, call, Left::Sevens)?, &6);
+    Ok(())
+}
+
 // Six reads, and then three writes, each with its sync: the last of them opens the gate.
 #[test]
 fn an_install_over_another_format_is_stopped_at_each_call(rt: HostRuntime) -> Result<(), Fail> {
-    let alloc = rt.alloc();
     for case in CASES {
         for call in 0..12 {
-            let whole = after_a_crash(alloc, case, call, Left::Whole)?;
-            assert!(rt; whole == 6 || (call >= 10 && whole == 7), "call {call}");
-            assert_eq!(rt; after_a_crash(alloc, case, call, Left::Lost)?, 6);
-            assert_eq!(rt; after_a_crash(alloc, case, call, Left::Sevens)?, 6);
+            check_stop(&rt, rt.alloc(), case, call)?;
         }
-        assert_eq!(rt; after_a_crash(alloc, case, 11, Left::Whole)?, 7);
     }
     Ok(())
 }

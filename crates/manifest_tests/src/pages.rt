@@ -1,4 +1,5 @@
 //! Pages that are taken and given back.
+use crate::asserts::check_same;
 use extent_map::{Extents, NoGap};
 use std::alloc::Global;
 use std::test::Fail;
@@ -25,10 +26,10 @@ fn the_first_gap_that_holds_so_many(rt: HostRuntime) -> Result<(), Fail> {
     let extents = taken(rt.alloc(), &[(200, 5), (192, 3)])?;
     let rows = [(0, 192), (1, 195), (5, 195), (6, 205), (307, 205)];
     for (need, page) in rows {
-        assert_eq!(rt; extents.gap(need), Ok(page));
+        check_same(&rt, &extents.gap(need), &Ok(page));
     }
     let largest = 307;
-    assert_eq!(rt; extents.gap(308), Err(NoGap { need: 308, largest }));
+    check_same(&rt, &extents.gap(308), &Err(NoGap { need: 308, largest }));
     Ok(())
 }
 
@@ -36,11 +37,11 @@ fn the_first_gap_that_holds_so_many(rt: HostRuntime) -> Result<(), Fail> {
 fn pages_that_are_given_back_are_free(rt: HostRuntime) -> Result<(), Fail> {
     let mut extents = taken(rt.alloc(), &[(192, 300), (500, 12)])?;
     let largest = 8;
-    assert_eq!(rt; extents.gap(9), Err(NoGap { need: 9, largest }));
+    check_same(&rt, &extents.gap(9), &Err(NoGap { need: 9, largest }));
     if extents.as_slice().contains(&(500, 12)) {
         extents.remove(500, 12);
     }
-    assert_eq!(rt; extents.gap(20), Ok(492));
-    assert_eq!(rt; extents.as_slice(), [(192, 300)].as_slice());
+    check_same(&rt, &extents.gap(20), &Ok(492));
+    check_same(&rt, &extents.as_slice(), &[(192, 300)].as_slice());
     Ok(())
 }

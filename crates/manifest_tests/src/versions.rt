@@ -1,6 +1,7 @@
 //! Versions that are formatted, loaded and installed.
 ghost use Rattle.std.specs.Prelude.{◌≤◌};
 
+use crate::asserts::{check_same, check_that};
 use crate::disks::{
     base, formatted, install_again, install_tables, loaded_with, new_disk, store, table, version_of,
 };
@@ -9,6 +10,7 @@ use disk_mem::MemDisk;
 use disk_trait::Disk;
 use manifest::{ManifestFault, Version, format, is_store, load, read_slot};
 use std::alloc::Global;
+use std::process::Abort;
 use std::test::Fail;
 
 // What is loaded, and where: the epoch, the slot, whether the other one is open, and how many tables.
@@ -24,30 +26,44 @@ fn found(alloc: Global, disk: &mut MemDisk) -> Result<(u64, u8, bool, usize), Ma
     }
 }
 
+// The first 40 bytes of a new store, before 32 bytes 0 and a sum.
+const FRONT: [u8; 40] = [
+    1, 0, 0, 0, 0, 0, 0, 0, 0x53, 0x52, 0x46, 0x4D, 2, 0, 0, 0, 1, 0, 0, 0, 0, 0, 0, 0, 0, 2, 0, 0,
+    0, 0, 0x40, 0, 0x40, 0, 0, 0, 0x40, 0, 0, 0,
+];
+
+const SUM: [u8; 8] = [0xF8, 0x2D, 0xC8, 0xE6, 0x65, 0x4F, 0xF8, 0x95];
+
+fn is_new_slot(disk: &mut MemDisk) -> bool {
+    let mut slot = [9; 80];
+    let done = disk.read(0, &mut slot).is_ok();
+    done && &slot[..40] == FRONT.as_slice()
+        && &slot[40..72] == [0; 32].as_slice()
+        && &slot[72..] == SUM.as_slice()
+}
+
+#[test]
+fn an_empty_disk_is_no_store(rt: HostRuntime) -> Result<(), Fail> {
+    let alloc = rt.alloc();
+    let mut empty = new_disk(alloc)?;
+    check_same(&rt, &is_store(&mut *empty), &Ok(false));
+    check_same(
+        &rt,
+        &found(alloc, &mut empty),
+        &Err(ManifestFault::NotAStore),
+    );
+    Ok(())
+}
+
 #[test]
 fn a_new_store_is_in_slot_a(rt: HostRuntime) -> Result<(), Fail> {
     let alloc = rt.alloc();
-    let mut empty = new_disk(alloc)?;
-    assert_eq!(rt; is_store(&mut *empty), Ok(false));
-    assert_eq!(rt; found(alloc, &mut empty), Err(ManifestFault::NotAStore));
     let mut disk = formatted(alloc)?;
-    let front = [
-        1, 0, 0, 0, 0, 0, 0, 0, 0x53, 0x52, 0x46, 0x4D, 2, 0, 0, 0, 1, 0, 0, 0, 0, 0, 0, 0, 0, 2,
-        0, 0, 0, 0, 0x40, 0, 0x40, 0, 0, 0, 0x40, 0, 0, 0,
-    ];
-    let mut slot = [9; 80];
-    assert!(rt; disk.read(0, &mut slot).is_ok());
-    assert!(rt; slot.as_slice().starts_with(front.as_slice()));
-    assert!(rt; slot.iter().skip(40).take(32).all(|byte| *byte == 0));
-    assert!(rt;
-        slot.as_slice().ends_with([0xF8, 0x2D, 0xC8, 0xE6, 0x65, 0x4F, 0xF8, 0x95].as_slice())
-    );
-    assert_eq!(rt; is_store(&mut *disk), Ok(true));
-    assert_eq!(rt; found(alloc, &mut disk), Ok((1, 0, false, 0)));
-    assert_eq!(rt;
-        format(alloc, &mut *disk, base(), 512),
-        Err(ManifestFault::AlreadyAStore)
-    );
+    check_that(&rt, is_new_slot(&mut disk));
+    check_same(&rt, &is_store(&mut *disk), &Ok(true));
+    check_same(&rt, &found(alloc, &mut disk), &Ok((1, 0, false, 0)));
+    let again = format(alloc, &mut *disk, base(), 512);
+    check_same(&rt, &again, &Err(ManifestFault::AlreadyAStore));
     Ok(())
 }
 
@@ -67,22 +83,23 @@ fn alone(
 fn a_slot_is_read_by_itself(rt: HostRuntime) -> Result<(), Fail> {
     let alloc = rt.alloc();
     let mut disk = formatted(alloc)?;
-    assert_eq!(rt; alone(alloc, &mut disk, 0), Ok(Some((1, 0, false))));
-    assert_eq!(rt; alone(alloc, &mut disk, 1), Ok(None));
-    assert_eq!(rt; install_again(alloc, &mut disk), Ok(()));
-    assert_eq!(rt; alone(alloc, &mut disk, 0), Ok(Some((1, 0, false))));
-    assert_eq!(rt; alone(alloc, &mut disk, 1), Ok(Some((2, 1, false))));
-    assert!(rt; disk.write(12, &[9]).is_ok());
+    check_same(&rt, &alone(alloc, &mut disk, 0), &Ok(Some((1, 0, false))));
+    check_same(&rt, &alone(alloc, &mut disk, 1), &Ok(None));
+    check_same(&rt, &install_again(alloc, &mut disk), &Ok(()));
+    check_same(&rt, &alone(alloc, &mut disk, 0), &Ok(Some((1, 0, false))));
+    check_same(&rt, &alone(alloc, &mut disk, 1), &Ok(Some((2, 1, false))));
+    check_that(&rt, disk.write(12, &[9]).is_ok());
     let damage = Damage::Shape {
         part: Part::Manifest,
         at: 12,
         rule: 2,
     };
-    assert_eq!(rt;
-        alone(alloc, &mut disk, 0),
-        Err(ManifestFault::Damaged(damage))
+    check_same(
+        &rt,
+        &alone(alloc, &mut disk, 0),
+        &Err(ManifestFault::Damaged(damage)),
     );
-    assert_eq!(rt; alone(alloc, &mut disk, 1), Ok(Some((2, 1, false))));
+    check_same(&rt, &alone(alloc, &mut disk, 1), &Ok(Some((2, 1, false))));
     Ok(())
 }
 
@@ -92,8 +109,12 @@ fn installs_change_the_slot(rt: HostRuntime) -> Result<(), Fail> {
     let mut disk = formatted(alloc)?;
     let rows = [(2, 1, true), (3, 0, true), (4, 1, true), (5, 0, true)];
     for (epoch, slot, other_open) in rows {
-        assert_eq!(rt; install_again(alloc, &mut disk), Ok(()));
-        assert_eq!(rt; found(alloc, &mut disk), Ok((epoch, slot, other_open, 0)));
+        check_same(&rt, &install_again(alloc, &mut disk), &Ok(()));
+        check_same(
+            &rt,
+            &found(alloc, &mut disk),
+            &Ok((epoch, slot, other_open, 0)),
+        );
     }
     Ok(())
 }
@@ -104,9 +125,30 @@ fn the_last_epoch_is_not_left(rt: HostRuntime) -> Result<(), Fail> {
     let mut disk = new_disk(alloc)?;
     store(alloc, &mut disk, 0, &version_of(alloc, 512, u64::MAX, &[])?)?;
     let before = disk.calls();
-    assert_eq!(rt; install_again(alloc, &mut disk), Err(ManifestFault::Epoch));
-    assert_eq!(rt; disk.calls().saturating_sub(before), 4);
-    assert_eq!(rt; found(alloc, &mut disk), Ok((u64::MAX, 0, false, 0)));
+    check_same(
+        &rt,
+        &install_again(alloc, &mut disk),
+        &Err(ManifestFault::Epoch),
+    );
+    check_same(&rt, &disk.calls().saturating_sub(before), &4);
+    check_same(&rt, &found(alloc, &mut disk), &Ok((u64::MAX, 0, false, 0)));
+    Ok(())
+}
+
+// These tables are installed, with this epoch.
+fn check_tables(
+    rt: &impl Abort,
+    alloc: Global,
+    disk: &mut MemDisk,
+    epoch: u64,
+    tables: &[Row],
+) -> Result<(), Fail> {
+    let version = loaded_with(alloc, tables)?;
+    check_same(rt, &install_tables(alloc, disk, &version), &Ok(()));
+    match load(alloc, disk) {
+        Ok(found) => check_that(rt, found.epoch == epoch && found.rows.as_slice() == tables),
+        Err(_) => return Err(Fail::from("no version")),
+    }
     Ok(())
 }
 
@@ -120,14 +162,10 @@ fn new_tables_are_installed(rt: HostRuntime) -> Result<(), Fail> {
         &[],
         &[table(6, 509)],
     ];
-    for (epoch, tables) in (2u64..).zip(rows) {
-        let version = loaded_with(alloc, tables)?;
-        assert_eq!(rt; install_tables(alloc, &mut disk, &version), Ok(()));
-        let Ok(found) = load(alloc, &mut *disk) else {
-            return Err(Fail::from("no version"));
-        };
-        assert_eq!(rt; found.epoch, epoch);
-        assert_eq!(rt; found.rows.as_slice(), tables);
+    let mut epoch = 2u64;
+    for tables in rows {
+        check_tables(&rt, alloc, &mut disk, epoch, tables)?;
+        epoch = epoch.saturating_add(1);
     }
     Ok(())
 }
@@ -148,9 +186,9 @@ fn many(alloc: Global, count: u32) -> Result<Box<MemDisk>, Fail> {
 fn as_many_tables_as_a_version_may_have(rt: HostRuntime) -> Result<(), Fail> {
     let alloc = rt.alloc();
     let mut disk = many(alloc, 1_024)?;
-    assert_eq!(rt; found(alloc, &mut disk), Ok((1, 0, false, 1_024)));
-    assert_eq!(rt; install_again(alloc, &mut disk), Ok(()));
-    assert_eq!(rt; found(alloc, &mut disk), Ok((2, 1, true, 1_024)));
+    check_same(&rt, &found(alloc, &mut disk), &Ok((1, 0, false, 1_024)));
+    check_same(&rt, &install_again(alloc, &mut disk), &Ok(()));
+    check_same(&rt, &found(alloc, &mut disk), &Ok((2, 1, true, 1_024)));
     Ok(())
 }
 
@@ -177,11 +215,12 @@ fn a_loaded_version_is_the_one_that_was_written(rt: HostRuntime) -> Result<(), F
         other_open,
         rows,
     } = version;
-    assert_eq!(rt; settings, base());
-    assert_eq!(rt;
-        (pages, epoch, log_area, slot, other_open),
-        (600, 9, 0, 1, false)
+    check_same(&rt, &settings, &base());
+    check_same(
+        &rt,
+        &(pages, epoch, log_area, slot, other_open),
+        &(600, 9, 0, 1, false),
     );
-    assert_eq!(rt; rows.as_slice(), [row].as_slice());
+    check_same(&rt, &rows.as_slice(), &[row].as_slice());
     Ok(())
 }
