@@ -1,6 +1,7 @@
 //! Which tables are merged next.
 ghost use Rattle.std.specs.Prelude.{◌≤◌, length};
 
+use crate::asserts::check_that;
 use crate::made::{Named, tables_of};
 use disk_mem::MemDisk;
 use key_base::MAX_TABLES;
@@ -33,9 +34,9 @@ const NEWEST: [Named; 4] = [
 #[test]
 fn four_tables_of_level_0_are_merged_and_three_are_not(rt: HostRuntime) -> Result<(), Fail> {
     let alloc = rt.alloc();
-    assert!(rt; chooses(alloc, &[], None)?);
-    assert!(rt; chooses(alloc, &NEWEST[..3], None)?);
-    assert!(rt; chooses(alloc, &NEWEST, Some((&[3, 2, 1, 0], 1)))?);
+    check_that(&rt, chooses(alloc, &[], None)?);
+    check_that(&rt, chooses(alloc, &NEWEST[..3], None)?);
+    check_that(&rt, chooses(alloc, &NEWEST, Some((&[3, 2, 1, 0], 1)))?);
     Ok(())
 }
 
@@ -49,9 +50,9 @@ fn those_of_level_1_that_they_meet_are_merged_with_them(rt: HostRuntime) -> Resu
     all[4] = (1, b"A", b"Z", 1);
     all[5] = (1, b"`", b"a", 1);
     all[6] = (1, b"m", b"m", 1);
-    assert!(rt; chooses(alloc, &all, Some((&[7, 6, 5, 4, 2, 1], 1)))?);
+    check_that(&rt, chooses(alloc, &all, Some((&[7, 6, 5, 4, 2, 1], 1)))?);
     all[6] = (1, b"n", b"z", 1);
-    assert!(rt; chooses(alloc, &all, Some((&[7, 6, 5, 4, 2], 1)))?);
+    check_that(&rt, chooses(alloc, &all, Some((&[7, 6, 5, 4, 2], 1)))?);
     Ok(())
 }
 
@@ -79,12 +80,12 @@ const FULL: [Named; 16] = [
 fn the_first_table_of_a_level_over_its_limit_is_merged(rt: HostRuntime) -> Result<(), Fail> {
     let alloc = rt.alloc();
     // 13 tables of 19 pages or 20 are 247 or 248 pages, and 256 are not too many
-    assert!(rt; chooses(alloc, &FULL, None)?);
+    check_that(&rt, chooses(alloc, &FULL, None)?);
     let mut over = FULL;
     over[13] = (1, b"n", b"n", 65_536);
-    assert!(rt; chooses(alloc, &over, Some((&[15, 1], 2)))?);
+    check_that(&rt, chooses(alloc, &over, Some((&[15, 1], 2)))?);
     over[13] = (1, b"n", b"n", 1);
-    assert!(rt; chooses(alloc, &over, None)?);
+    check_that(&rt, chooses(alloc, &over, None)?);
     Ok(())
 }
 
@@ -94,8 +95,8 @@ fn a_level_of_exactly_256_pages_is_left(rt: HostRuntime) -> Result<(), Fail> {
     // 248 pages, and one table more: of 6 pages of blocks, one of index and one of filter; and then of one page more
     let mut all = FULL;
     all[13] = (1, b"n", b"n", 20_480);
-    assert!(rt; chooses(alloc, &all, None)?);
+    check_that(&rt, chooses(alloc, &all, None)?);
     all[13] = (1, b"n", b"n", 24_576);
-    assert!(rt; chooses(alloc, &all, Some((&[15, 1], 2)))?);
+    check_that(&rt, chooses(alloc, &all, Some((&[15, 1], 2)))?);
     Ok(())
 }

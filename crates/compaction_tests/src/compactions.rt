@@ -1,4 +1,5 @@
 //! Compactions of a store.
+use crate::asserts::{check_same, check_that};
 use disk_mem::MemDisk;
 use std::test::Fail;
 use store_core::{Explained, StoreError};
@@ -24,10 +25,10 @@ const DELETED: [Change<'static>; 4] = [
 fn nothing_is_left_of_a_deleted_pair(rt: HostRuntime) -> Result<(), Fail> {
     let mut disk = disk_of(rt.alloc(), &[])?;
     let mut store = changed(rt.alloc(), &mut disk, &DELETED)?;
-    assert_eq!(rt; store.explain(b"a"), explained(2, 2, 2));
-    assert_eq!(rt; store.compact(&mut *disk), Ok(()));
-    assert_eq!(rt; store.get(&mut *disk, b"a"), Ok(None));
-    assert_eq!(rt; store.explain(b"a"), explained(0, 0, 0));
+    check_same(&rt, &store.explain(b"a"), &explained(2, 2, 2));
+    check_same(&rt, &store.compact(&mut *disk), &Ok(()));
+    check_same(&rt, &store.get(&mut *disk, b"a"), &Ok(None));
+    check_same(&rt, &store.explain(b"a"), &explained(0, 0, 0));
     Ok(())
 }
 
@@ -36,8 +37,8 @@ fn an_empty_store_is_compacted_without_a_call(rt: HostRuntime) -> Result<(), Fai
     let mut disk = disk_of(rt.alloc(), &[])?;
     let mut store = changed(rt.alloc(), &mut disk, &[])?;
     let calls = disk.calls();
-    assert_eq!(rt; store.compact(&mut *disk), Ok(()));
-    assert_eq!(rt; disk.calls(), calls);
+    check_same(&rt, &store.compact(&mut *disk), &Ok(()));
+    check_same(&rt, &disk.calls(), &calls);
     Ok(())
 }
 
@@ -73,11 +74,11 @@ fn has_live(store: &mut PlainStore, disk: &mut MemDisk) -> bool {
 fn live_pairs_stand_in_one_table(rt: HostRuntime) -> Result<(), Fail> {
     let mut disk = disk_of(rt.alloc(), &[])?;
     let mut store = changed(rt.alloc(), &mut disk, &LIVE)?;
-    assert_eq!(rt; store.compact(&mut *disk), Ok(()));
-    assert!(rt; has_live(&mut store, &mut disk));
-    assert_eq!(rt; store.explain(b"c"), explained(1, 1, 1));
+    check_same(&rt, &store.compact(&mut *disk), &Ok(()));
+    check_that(&rt, has_live(&mut store, &mut disk));
+    check_same(&rt, &store.explain(b"c"), &explained(1, 1, 1));
     let mut again = opened(rt.alloc(), &mut disk)?;
-    assert!(rt; has_live(&mut again, &mut disk));
+    check_that(&rt, has_live(&mut again, &mut disk));
     Ok(())
 }
 
@@ -94,17 +95,21 @@ fn a_compaction_of_deleted_pairs_makes_room(rt: HostRuntime) -> Result<(), Fail>
     let mut store = changed(rt.alloc(), &mut disk, &[])?;
     let value = vec![in rt.alloc(); 7; 65_536]?;
     for key in 1..22u8 {
-        assert_eq!(rt; store.put(&mut *disk, &[key], &value), Ok(()));
+        check_same(&rt, &store.put(&mut *disk, &[key], &value), &Ok(()));
         slice(&mut store, &mut disk)?;
     }
     let full = StoreError::Full { need: 53, gap: 2 };
-    assert_eq!(rt; store.put(&mut *disk, &[22], &value), Err(full));
+    check_same(&rt, &store.put(&mut *disk, &[22], &value), &Err(full));
     for key in 1..22u8 {
-        assert_eq!(rt; store.delete(&mut *disk, &[key]), Ok(()));
+        check_same(&rt, &store.delete(&mut *disk, &[key]), &Ok(()));
         slice(&mut store, &mut disk)?;
     }
-    assert_eq!(rt; store.compact(&mut *disk), Ok(()));
-    assert_eq!(rt; store.put(&mut *disk, &[22], &value), Ok(()));
-    assert_eq!(rt; store.get(&mut *disk, &[22]), Ok(Some(value.as_slice())));
+    check_same(&rt, &store.compact(&mut *disk), &Ok(()));
+    check_same(&rt, &store.put(&mut *disk, &[22], &value), &Ok(()));
+    check_same(
+        &rt,
+        &store.get(&mut *disk, &[22]),
+        &Ok(Some(value.as_slice())),
+    );
     Ok(())
 }

@@ -1,4 +1,5 @@
 //! Values that are too long for the log, beside merges that run.
+use crate::asserts::{check_same_at, check_that_at};
 use crate::random::{Compared, side_by_side, text_of};
 use crate::tended::{FOUR, has_keys, tended};
 use disk_mem::MemDisk;
@@ -40,7 +41,7 @@ fn put_between(alloc: Global, slices: u64) -> Result<bool, Fail> {
 #[test]
 fn a_long_put_between_two_slices(rt: HostRuntime) -> Result<(), Fail> {
     for slices in 1..4 {
-        assert!(rt; put_between(rt.alloc(), slices)?, "{slices} slices");
+        check_that_at(&rt, &slices, put_between(rt.alloc(), slices)?);
     }
     Ok(())
 }
@@ -115,7 +116,7 @@ fn long_values_are_answered_as_they_are_played(rt: HostRuntime) -> Result<(), Fa
     for (seed, pages, blocks) in [(1, 1_024, 1), (2, 1_024, 2), (3, 4_096, 8)] {
         let script = drawn(alloc, seed, lines, 60, &text)?;
         let end = side_by_side(alloc, &script, None, pages, blocks, u64::from(blocks))?;
-        assert_eq!(rt; end.other, None, "seed {seed}");
+        check_same_at(&rt, &seed, &end.other, &None);
     }
     Ok(())
 }
@@ -136,7 +137,7 @@ fn long_values_are_the_same_in_all_slices(rt: HostRuntime) -> Result<(), Fail> {
             other: None,
             refused: 0,
         };
-        assert_eq!(rt; end, same, "blocks {blocks}");
+        check_same_at(&rt, &blocks, &end, &same);
     }
     Ok(())
 }

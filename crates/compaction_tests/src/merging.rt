@@ -2,6 +2,7 @@
 ghost use Rattle.std.specs.Prelude.{IfOk};
 ghost use Rattle.merge_rows.specs.Steps.{AreWalksIn, stands};
 
+use crate::asserts::{check_same, check_that};
 use crate::made::{Named, add, placed, tables_of};
 use disk_mem::MemDisk;
 use disk_trait::{DiskFault, Op};
@@ -116,15 +117,17 @@ fn each_call_of_a_slice_failing_in_turn(rt: HostRuntime) -> Result<(), Fail> {
                 op,
                 at: page.saturating_mul(4_096),
             });
-            assert_eq!(rt;
-                with_fault(rt.alloc(), call, blocks)?,
-                (Err(fault), named, 0)
+            check_same(
+                &rt,
+                &with_fault(rt.alloc(), call, blocks)?,
+                &(Err(fault), named, 0),
             );
             call = call.saturating_add(1);
         }
-        assert_eq!(rt;
-            with_fault(rt.alloc(), 8, blocks)?,
-            (Ok(Sliced::Ready), 1, 1)
+        check_same(
+            &rt,
+            &with_fault(rt.alloc(), 8, blocks)?,
+            &(Ok(Sliced::Ready), 1, 1),
         );
     }
     Ok(())
@@ -167,12 +170,12 @@ fn slices_leave_the_newest_entries(rt: HostRuntime) -> Result<(), Fail> {
     let mut extents = extents_of(alloc, &tables)?;
     let mut job = begun(alloc, &tables)?;
     let (working, answer) = slices(&mut job, &mut disk, &tables, &mut extents, 1);
-    assert_eq!(rt; answer, Ok(Sliced::Ready));
-    assert!(rt; working <= 6);
+    check_same(&rt, &answer, &Ok(Sliced::Ready));
+    check_that(&rt, working <= 6);
     let made = made_of(job);
     assert_eq!(rt; made.len(), 1);
-    assert!(rt; is_output(&made[0]));
-    assert!(rt; has(alloc, &made[0], &mut disk, b"b", b"\x07")?);
+    check_that(&rt, is_output(&made[0]));
+    check_that(&rt, has(alloc, &made[0], &mut disk, b"b", b"\x07")?);
     Ok(())
 }
 
@@ -230,9 +233,9 @@ fn full_outputs_are_closed(rt: HostRuntime) -> Result<(), Fail> {
     let mut extents = extents_of(alloc, &tables)?;
     let mut job = begun(alloc, &tables)?;
     let (working, answer) = slices(&mut job, &mut disk, &tables, &mut extents, 1);
-    assert_eq!(rt; answer, Ok(Sliced::Ready));
-    assert!(rt; working <= blocks_of(&tables).saturating_add(3 + 1));
+    check_same(&rt, &answer, &Ok(Sliced::Ready));
+    check_that(&rt, working <= blocks_of(&tables).saturating_add(3 + 1));
     let entries = entries_of(alloc, &job)?;
-    assert_eq!(rt; entries.as_slice(), [2_047, 2_047, 106].as_slice());
+    check_same(&rt, &entries.as_slice(), &[2_047, 2_047, 106].as_slice());
     Ok(())
 }

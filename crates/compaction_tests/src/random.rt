@@ -1,5 +1,6 @@
 //! Random scripts over a store, with a merge slice behind each put and delete, beside the same scripts as they are
 //! played.
+use crate::asserts::{check_same_at, check_that_at};
 use disk_mem::MemDisk;
 use filter_api::Settings;
 use plain_filter::PlainFilter;
@@ -467,8 +468,8 @@ fn a_store_in_slices_replies_as_it_is_played_in_them(rt: HostRuntime) -> Result<
     for (seed, pages, blocks, longest) in rows {
         let script = drawn(alloc, seed, Lines::All, 400, &text, longest)?;
         let end = side_by_side(alloc, &script, None, pages, blocks, u64::from(blocks))?;
-        assert_eq!(rt; end.other, None, "seed {seed}");
-        assert!(rt; end.refused > 0, "seed {seed}");
+        check_same_at(&rt, &seed, &end.other, &None);
+        check_that_at(&rt, &seed, end.refused > 0);
     }
     Ok(())
 }
@@ -482,7 +483,7 @@ fn a_store_whose_numbers_change_replies_as_it_is_played(rt: HostRuntime) -> Resu
         let script = drawn(alloc, seed, Lines::All, 150, &text, longest)?;
         let changes = Some(Numbers::new(seed));
         let end = side_by_side(alloc, &script, changes, 512, blocks, u64::from(blocks))?;
-        assert_eq!(rt; end.other, None, "seed {seed}");
+        check_same_at(&rt, &seed, &end.other, &None);
     }
     Ok(())
 }
@@ -501,7 +502,7 @@ fn replies_are_the_same_in_all_slices(rt: HostRuntime) -> Result<(), Fail> {
                 other: None,
                 refused: 0,
             };
-            assert_eq!(rt; end, same, "seed {seed} blocks {blocks}");
+            check_same_at(&rt, &blocks, &end, &same);
         }
     }
     Ok(())

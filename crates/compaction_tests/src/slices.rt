@@ -1,4 +1,5 @@
 //! Merges in merge slices, compared with whole ones.
+use crate::asserts::{check_same, check_that};
 use plain_filter::PlainFilter;
 use plain_store::{Played, Reply, Request, State, play_in_slices, sliced};
 use std::alloc::{AllocError, Global};
@@ -84,10 +85,10 @@ fn slices_answer_as_a_whole_merge_does(rt: HostRuntime) -> Result<(), Fail> {
     ];
     let whole = played(alloc, &four.state, &script)?;
     assert!(rt; whole.replies.len() > 11);
-    assert!(rt; matches!(whole.replies[11], Reply::Counted(7)));
+    check_that(&rt, matches!(whole.replies[11], Reply::Counted(7)));
     for blocks in 1..5 {
         let slices = in_slices(alloc, blocks, &four.state, &script)?;
-        assert!(rt; same_replies(&whole, &slices));
+        check_that(&rt, same_replies(&whole, &slices));
     }
     Ok(())
 }
@@ -113,8 +114,8 @@ fn slices_of(alloc: Global, blocks: u64, state: &State) -> Result<usize, AllocEr
 fn four_blocks_and_one_output_take_five_slices_at_most(rt: HostRuntime) -> Result<(), Fail> {
     let alloc = rt.alloc();
     let four = four_tables(alloc)?;
-    assert_eq!(rt; slices_of(alloc, 1, &four.state)?, 5);
-    assert_eq!(rt; slices_of(alloc, 3, &four.state)?, 3);
-    assert_eq!(rt; slices_of(alloc, 9, &four.state)?, 2);
+    check_same(&rt, &slices_of(alloc, 1, &four.state)?, &5);
+    check_same(&rt, &slices_of(alloc, 3, &four.state)?, &3);
+    check_same(&rt, &slices_of(alloc, 9, &four.state)?, &2);
     Ok(())
 }

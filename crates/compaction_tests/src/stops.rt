@@ -1,4 +1,5 @@
 //! Calls of a merge slice and of a compaction that fail, and what a crash then leaves.
+use crate::asserts::check_same;
 use crate::tended::{FOUR, has_keys, tended};
 use disk_mem::MemDisk;
 use disk_trait::{DiskFault, Op};
@@ -146,41 +147,41 @@ fn first_bad(alloc: Global, work: Work, calls: &[Op], left: Left) -> Result<Opti
 #[test]
 fn calls_of_a_slice_fail_and_their_writes_are_whole(rt: HostRuntime) -> Result<(), Fail> {
     let bad = first_bad(rt.alloc(), Work::Slice, &SLICE, Left::Whole)?;
-    assert_eq!(rt; bad, None);
+    check_same(&rt, &bad, &None);
     Ok(())
 }
 
 #[test]
 fn calls_of_a_slice_fail_and_their_writes_are_lost(rt: HostRuntime) -> Result<(), Fail> {
     let bad = first_bad(rt.alloc(), Work::Slice, &SLICE, Left::Lost)?;
-    assert_eq!(rt; bad, None);
+    check_same(&rt, &bad, &None);
     Ok(())
 }
 
 #[test]
 fn calls_of_a_slice_fail_and_their_writes_are_sevens(rt: HostRuntime) -> Result<(), Fail> {
     let bad = first_bad(rt.alloc(), Work::Slice, &SLICE, Left::Sevens)?;
-    assert_eq!(rt; bad, None);
+    check_same(&rt, &bad, &None);
     Ok(())
 }
 
 #[test]
 fn calls_of_a_compaction_fail_and_their_writes_are_whole(rt: HostRuntime) -> Result<(), Fail> {
     let bad = first_bad(rt.alloc(), Work::Compaction, &COMPACTION, Left::Whole)?;
-    assert_eq!(rt; bad, None);
+    check_same(&rt, &bad, &None);
     Ok(())
 }
 
 #[test]
 fn calls_of_a_compaction_fail_and_their_writes_are_lost(rt: HostRuntime) -> Result<(), Fail> {
     let bad = first_bad(rt.alloc(), Work::Compaction, &COMPACTION, Left::Lost)?;
-    assert_eq!(rt; bad, None);
+    check_same(&rt, &bad, &None);
     Ok(())
 }
 
 #[test]
 fn calls_of_a_compaction_fail_and_their_writes_are_sevens(rt: HostRuntime) -> Result<(), Fail> {
     let bad = first_bad(rt.alloc(), Work::Compaction, &COMPACTION, Left::Sevens)?;
-    assert_eq!(rt; bad, None);
+    check_same(&rt, &bad, &None);
     Ok(())
 }

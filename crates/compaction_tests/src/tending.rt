@@ -1,4 +1,5 @@
 //! Merges of a store, a merge slice at a call.
+use crate::asserts::{check_same, check_that, check_that_at};
 use crate::tended::{FOUR, FOUR_TOMBSTONES, has_keys, tended};
 use disk_mem::MemDisk;
 use std::alloc::Global;
@@ -57,10 +58,10 @@ fn four_tables_become_one(rt: HostRuntime) -> Result<(), Fail> {
         row(0, 195, 1),
         row(0, 192, 1),
     ];
-    assert!(rt; is_body(&disk, BODY_A, 5, &rows));
+    check_that(&rt, is_body(&disk, BODY_A, 5, &rows));
     let (worked, most) = tended(&mut store, &mut disk, 8)?;
-    assert!(rt; worked >= 1 && most <= 8);
-    assert!(rt; is_body(&disk, BODY_B, 6, &[row(1, 204, 4)]));
+    check_that(&rt, worked >= 1 && most <= 8);
+    check_that(&rt, is_body(&disk, BODY_B, 6, &[row(1, 204, 4)]));
     Ok(())
 }
 
@@ -69,9 +70,9 @@ fn a_block_at_a_slice(rt: HostRuntime) -> Result<(), Fail> {
     let mut disk = disk_of(rt.alloc(), &[])?;
     let mut store = changed(rt.alloc(), &mut disk, &FOUR)?;
     let (worked, most) = tended(&mut store, &mut disk, 1)?;
-    assert!(rt; worked == 4);
-    assert!(rt; most <= 1);
-    assert!(rt; is_body(&disk, BODY_B, 6, &[row(1, 204, 4)]));
+    check_that(&rt, worked == 4);
+    check_that(&rt, most <= 1);
+    check_that(&rt, is_body(&disk, BODY_B, 6, &[row(1, 204, 4)]));
     Ok(())
 }
 
@@ -81,13 +82,10 @@ fn four_tombstones_are_four_slices(rt: HostRuntime) -> Result<(), Fail> {
     let mut disk = disk_of(rt.alloc(), &[])?;
     let mut store = changed(rt.alloc(), &mut disk, &FOUR_TOMBSTONES)?;
     for slice in 0..4 {
-        assert!(rt;
-            store.tend(&mut *disk, 1)? == Tended::Worked,
-            "slice {slice}"
-        );
+        check_that_at(&rt, &slice, store.tend(&mut *disk, 1)? == Tended::Worked);
     }
-    assert!(rt; store.tend(&mut *disk, 1)? == Tended::Idle);
-    assert!(rt; is_body(&disk, BODY_B, 6, &[]));
+    check_that(&rt, store.tend(&mut *disk, 1)? == Tended::Idle);
+    check_that(&rt, is_body(&disk, BODY_B, 6, &[]));
     Ok(())
 }
 
@@ -110,9 +108,9 @@ fn with_flush(alloc: Global, disk: &mut MemDisk, slices: u64) -> Result<bool, Fa
 fn a_flush_between_two_slices(rt: HostRuntime) -> Result<(), Fail> {
     for slices in 1..4 {
         let mut disk = disk_of(rt.alloc(), &[])?;
-        assert!(rt; with_flush(rt.alloc(), &mut disk, slices)?);
+        check_that(&rt, with_flush(rt.alloc(), &mut disk, slices)?);
         let rows = [row(0, 204, 1), row(1, 207, 4)];
-        assert!(rt; is_body(&disk, BODY_A, 7, &rows), "{slices} slices");
+        check_that_at(&rt, &slices, is_body(&disk, BODY_A, 7, &rows));
     }
     Ok(())
 }
@@ -124,14 +122,18 @@ fn a_put_that_fills_the_log_between_two_slices(rt: HostRuntime) -> Result<(), Fa
     let mut store = changed(rt.alloc(), &mut disk, &FOUR)?;
     let value = vec![in rt.alloc(); 7; 65_536]?;
     for key in 1..5u8 {
-        assert_eq!(rt; store.tend(&mut *disk, 1), Ok(Tended::Worked));
+        check_same(&rt, &store.tend(&mut *disk, 1), &Ok(Tended::Worked));
         store.put(&mut *disk, &[key], &value)?;
     }
     tended(&mut store, &mut disk, 1)?;
-    assert!(rt; has_keys(&mut store, &mut disk, b"abcd"));
+    check_that(&rt, has_keys(&mut store, &mut disk, b"abcd"));
     for key in 1..5u8 {
-        assert_eq!(rt; store.get(&mut *disk, &[key]), Ok(Some(value.as_slice())));
+        check_same(
+            &rt,
+            &store.get(&mut *disk, &[key]),
+            &Ok(Some(value.as_slice())),
+        );
     }
-    assert!(rt; stands(&disk, BODY_A, b"SRFM\x02\x00\x02\x00\x07"));
+    check_that(&rt, stands(&disk, BODY_A, b"SRFM\x02\x00\x02\x00\x07"));
     Ok(())
 }

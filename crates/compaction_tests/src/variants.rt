@@ -1,5 +1,6 @@
 //! Tables of each variant in one version: what is answered of keys and of ranges, and how many blocks are read for it, beside
 //! the definitions.
+use crate::asserts::{check_same, check_that_at};
 use crate::random::{Between, VARIANTS, answered, replies_so, state_behind, store_behind};
 use disk_mem::MemDisk;
 use plain_filter::PlainFilter;
@@ -111,15 +112,17 @@ const KEYS: [&[u8]; 12] = [
 fn keys_are_answered_by_the_settings_of_each_table(rt: HostRuntime) -> Result<(), Fail> {
     let alloc = rt.alloc();
     let mut mixed = of_each_variant(alloc)?;
-    assert_eq!(rt; mixed.state.tables.len(), 4);
+    check_same(&rt, &mixed.state.tables.len(), &4);
     for key in KEYS {
-        assert!(rt;
+        check_that_at(
+            &rt,
+            &key,
             answers_so(alloc, &mut mixed, Request::Get { key })?,
-            "{key:?}"
         );
-        assert!(rt;
+        check_that_at(
+            &rt,
+            &key,
             answers_so(alloc, &mut mixed, Request::Explain { key })?,
-            "{key:?}"
         );
     }
     Ok(())
@@ -144,10 +147,11 @@ fn ranges_are_answered_by_the_settings_of_each_table(rt: HostRuntime) -> Result<
     let mut mixed = of_each_variant(alloc)?;
     for (lo, hi) in RANGES {
         let seek = Request::Seek { lo, hi: Some(hi) };
-        assert!(rt; answers_so(alloc, &mut mixed, seek)?, "{lo:?} {hi:?}");
-        assert!(rt;
+        check_that_at(&rt, &hi, answers_so(alloc, &mut mixed, seek)?);
+        check_that_at(
+            &rt,
+            &hi,
             answers_so(alloc, &mut mixed, Request::Estimate { lo, hi })?,
-            "{lo:?} {hi:?}"
         );
     }
     Ok(())

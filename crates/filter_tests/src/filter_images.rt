@@ -3,6 +3,7 @@
 use super::filters::{filter_of_words, is_refused, spelled};
 use super::images::{SPARSE, dense_image};
 use super::tries::boxed;
+use crate::asserts::check_that;
 use plain_filter::PlainFilter;
 use std::alloc::Global;
 use std::process::Abort;
@@ -14,8 +15,8 @@ fn check_image(rt: &impl Abort, alloc: Global, ratio: u16, image: &[u8]) -> Resu
     let filter: SurfFilter<Global> = filter_of_words(alloc, &[b"a", b"ab"], 0, 0, ratio)?;
     let filter = boxed(alloc, filter)?;
     let bytes = spelled(alloc, &*filter)?;
-    assert!(rt; bytes.as_slice() == image);
-    assert!(rt; is_refused::<PlainFilter>(alloc, image, 0, 1));
+    check_that(rt, bytes.as_slice() == image);
+    check_that(rt, is_refused::<PlainFilter>(alloc, image, 0, 1));
     Ok(())
 }
 
@@ -36,7 +37,10 @@ fn check_plain(
 ) -> Result<(), Fail> {
     let filter: PlainFilter = filter_of_words(alloc, words, 0, 0, 64)?;
     let bytes = spelled(alloc, &filter)?;
-    assert!(rt; is_refused::<SurfFilter<Global>>(alloc, bytes.as_slice(), place, rule));
+    check_that(
+        rt,
+        is_refused::<SurfFilter<Global>>(alloc, bytes.as_slice(), place, rule),
+    );
     Ok(())
 }
 

@@ -1,5 +1,6 @@
 //! Lists of keys and their stubs, lists of leaves, and settings.
 use super::keys::list_of_words;
+use crate::asserts::{check_same, check_that};
 use filter_api::{BadSettings, Field, Leaf, LeafList, Settings};
 use filter_model::are_keys;
 use key_truncate::truncate;
@@ -15,7 +16,7 @@ fn keys_rise_and_are_not_empty(rt: HostRuntime) -> Result<(), Fail> {
         (&[b""], false),
     ];
     for (words, wanted) in rows {
-        assert_eq!(rt; are_keys(&list_of_words(rt.alloc(), words)?), wanted);
+        check_same(&rt, &are_keys(&list_of_words(rt.alloc(), words)?), &wanted);
     }
     Ok(())
 }
@@ -33,13 +34,14 @@ fn stubs_tell_keys_apart(rt: HostRuntime) -> Result<(), Fail> {
     ];
     for (words, stubs) in rows {
         let keys = list_of_words(rt.alloc(), words)?;
-        assert!(rt; are_keys(&keys));
+        check_that(&rt, are_keys(&keys));
         let found = truncate(rt.alloc(), &keys)?;
-        assert!(rt;
+        check_that(
+            &rt,
             found
                 .iter()
                 .map(|stub| (stub.len, stub.ends))
-                .eq(stubs.iter().copied())
+                .eq(stubs.iter().copied()),
         );
     }
     Ok(())
@@ -48,16 +50,16 @@ fn stubs_tell_keys_apart(rt: HostRuntime) -> Result<(), Fail> {
 #[test]
 fn leaves_stand_in_the_order_of_pushing(rt: HostRuntime) -> Result<(), Fail> {
     let mut leaves = LeafList::with_capacity(rt.alloc(), 1)?;
-    assert!(rt; leaves.is_empty());
+    check_that(&rt, leaves.is_empty());
     leaves.push(Leaf {
         stub: b"b".to_vec(rt.alloc())?,
         ends: true,
         hash: 1,
         real: 2,
     })?;
-    assert!(rt; leaves.len() == 1);
-    assert!(rt; leaves.get(0).ends);
-    assert_eq!(rt; leaves.get(0).stub.as_slice(), b"b".as_slice());
+    check_that(&rt, leaves.len() == 1);
+    check_that(&rt, leaves.get(0).ends);
+    check_same(&rt, &leaves.get(0).stub.as_slice(), &b"b".as_slice());
     Ok(())
 }
 
@@ -74,6 +76,6 @@ fn the_first_field_out_of_range_is_named(rt: HostRuntime) {
             real_bits,
             ratio: 64,
         };
-        assert_eq!(rt; settings.check(), wanted);
+        check_same(&rt, &settings.check(), &wanted);
     }
 }

@@ -9,6 +9,8 @@
 #[cfg(test)]
 mod allocations;
 #[cfg(test)]
+mod asserts;
+#[cfg(test)]
 mod bits;
 #[cfg(test)]
 mod bounds;

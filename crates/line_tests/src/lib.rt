@@ -13,6 +13,8 @@
 #![tactic(auto)]
 
 #[cfg(test)]
+mod asserts;
+#[cfg(test)]
 mod loads;
 #[cfg(test)]
 mod maps;

@@ -1,4 +1,5 @@
 //! Merge slices that read eight blocks and no more.
+use crate::asserts::check_same_at;
 use crate::faults::push_large;
 use crate::runs::{base_disk, check, commanded, disk_of, left_behind, served};
 use disk_mem::MemDisk;
@@ -61,7 +62,7 @@ fn a_load_merges_eight_blocks_a_step(rt: HostRuntime) -> Result<(), Fail> {
     ];
     for (words, told) in rows {
         let end = commanded(alloc, words, disk_of(alloc, first.bytes())?)?;
-        assert_eq!(rt; end.status, 0, "{words}");
+        check_same_at(&rt, &words, &end.status, &0);
         let again = served(alloc, end.disk, b"explain 00\n")?;
         check(&rt, &again, 0, told, 0);
     }

@@ -1,4 +1,5 @@
 //! Calls that fail, and what the next run finds.
+use crate::asserts::{check_same, check_same_at, check_that, check_that_at};
 use crate::runs::{
     Ended, Succinct, base_disk, calls_of, check, commanded, disk_of, failing, left_behind, lost,
     opened, paced, served, served_by, written,
@@ -144,26 +145,41 @@ fn each_call_fails_well<F: RangeFilter>(alloc: Global, left: Left) -> Result<boo
 
 #[test]
 fn calls_fail_and_their_writes_are_whole(rt: HostRuntime) -> Result<(), Fail> {
-    assert!(rt; each_call_fails_well::<Succinct>(rt.alloc(), Left::Whole)?);
+    check_that(
+        &rt,
+        each_call_fails_well::<Succinct>(rt.alloc(), Left::Whole)?,
+    );
     Ok(())
 }
 
 #[test]
 fn calls_fail_and_their_writes_are_lost(rt: HostRuntime) -> Result<(), Fail> {
-    assert!(rt; each_call_fails_well::<Succinct>(rt.alloc(), Left::Lost)?);
+    check_that(
+        &rt,
+        each_call_fails_well::<Succinct>(rt.alloc(), Left::Lost)?,
+    );
     Ok(())
 }
 
 #[test]
 fn calls_fail_and_their_writes_are_half(rt: HostRuntime) -> Result<(), Fail> {
-    assert!(rt; each_call_fails_well::<Succinct>(rt.alloc(), Left::Half)?);
+    check_that(
+        &rt,
+        each_call_fails_well::<Succinct>(rt.alloc(), Left::Half)?,
+    );
     Ok(())
 }
 
 #[test]
 fn calls_fail_over_plain_filters(rt: HostRuntime) -> Result<(), Fail> {
-    assert!(rt; each_call_fails_well::<PlainFilter>(rt.alloc(), Left::Lost)?);
-    assert!(rt; each_call_fails_well::<PlainFilter>(rt.alloc(), Left::Sevens)?);
+    check_that(
+        &rt,
+        each_call_fails_well::<PlainFilter>(rt.alloc(), Left::Lost)?,
+    );
+    check_that(
+        &rt,
+        each_call_fails_well::<PlainFilter>(rt.alloc(), Left::Sevens)?,
+    );
     Ok(())
 }
 
@@ -181,7 +197,7 @@ fn a_flush_that_is_stopped_leaves_no_table(rt: HostRuntime) -> Result<(), Fail> 
         let again = served(alloc, lost(alloc, &end.disk)?, lines)?;
         let found = b"val 62\nval 63\nnone\ntables 0 admitted 0 blocks 0\n";
         check(&rt, &again, 0, found, call);
-        assert_eq!(rt; again.disk.reads(), 5, "call {call}");
+        check_same_at(&rt, &call, &again.disk.reads(), &5);
     }
     Ok(())
 }
@@ -221,9 +237,9 @@ fn a_range_says_the_pairs_before_a_fault(rt: HostRuntime) -> Result<(), Fail> {
     for block in 0..3 {
         let disk = failing(alloc, &first, (calls as u64).saturating_add(block))?;
         let end = served(alloc, disk, b"range - - 3\nrange - 7a 3\nget 61\n")?;
-        assert_eq!(rt; end.status, 4, "block {block}");
-        assert!(rt; end.said.ends_with(b"device\n"));
-        assert_eq!(rt; pairs(end.said.as_slice()) as u64, block);
+        check_same_at(&rt, &block, &end.status, &4);
+        check_that(&rt, end.said.ends_with(b"device\n"));
+        check_same(&rt, &(pairs(end.said.as_slice()) as u64), &block);
     }
     Ok(())
 }
@@ -234,8 +250,8 @@ fn a_range_of_two_reads_two_blocks(rt: HostRuntime) -> Result<(), Fail> {
     let first = three_blocks(alloc)?;
     let calls = calls_of(alloc, &first, b"")?;
     let end = served(alloc, first, b"range 61 7a 2\n")?;
-    assert!(rt; end.said.ends_with(b"\nend 2\n"));
-    assert_eq!(rt; end.disk.calls(), calls.saturating_add(2));
+    check_that(&rt, end.said.ends_with(b"\nend 2\n"));
+    check_same(&rt, &end.disk.calls(), &calls.saturating_add(2));
     Ok(())
 }
 
@@ -246,10 +262,10 @@ fn a_range_says_the_pairs_before_damage(rt: HostRuntime) -> Result<(), Fail> {
     let mut disk = three_blocks(alloc)?;
     disk.write(791_528, &[7])?;
     let end = served(alloc, disk, b"range - 7a 3\nget 61\n")?;
-    assert_eq!(rt; end.status, 5);
-    assert_eq!(rt; pairs(end.said.as_slice()), 1);
+    check_same(&rt, &end.status, &5);
+    check_same(&rt, &pairs(end.said.as_slice()), &1);
     let behind = end.said.get(6_007..).unwrap_or(b"");
-    assert!(rt; behind.starts_with(b"damaged block 790528 sum "));
+    check_that(&rt, behind.starts_with(b"damaged block 790528 sum "));
     Ok(())
 }
 
@@ -260,14 +276,18 @@ fn a_put_behind_a_failed_sync_is_stopped(rt: HostRuntime) -> Result<(), Fail> {
     let first = base_disk(alloc)?;
     let mut disk = failing(alloc, &first, 7)?;
     let mut store = opened(alloc, &mut disk)?;
-    assert!(rt;
+    check_that(
+        &rt,
         matches!(
             store.put(&mut *disk, b"a", b"b"),
             Err(StoreError::Device(_))
-        )
+        ),
     );
-    assert!(rt; store.put(&mut *disk, b"c", b"d") == Err(StoreError::Stopped));
-    assert_eq!(rt; disk.calls(), 8);
+    check_that(
+        &rt,
+        store.put(&mut *disk, b"c", b"d") == Err(StoreError::Stopped),
+    );
+    check_same(&rt, &disk.calls(), &8);
     Ok(())
 }
 
@@ -277,9 +297,9 @@ fn each_say_of_a_byte_failing_in_turn(rt: HostRuntime) -> Result<(), Fail> {
     let first = base_disk(alloc)?;
     for say in 0..32 {
         let end = paced(alloc, &first, SCRIPT, &[], &[say], 1)?;
-        assert_eq!(rt; end.status, 6);
-        assert_eq!(rt; end.said.len() as u64, say);
-        assert!(rt; outlasts::<Succinct>(alloc, &end, Left::Lost)?, "say {say}");
+        check_same(&rt, &end.status, &6);
+        check_same(&rt, &(end.said.len() as u64), &say);
+        check_that_at(&rt, &say, outlasts::<Succinct>(alloc, &end, Left::Lost)?);
     }
     Ok(())
 }
@@ -290,10 +310,10 @@ fn each_say_of_a_reply_failing_in_turn(rt: HostRuntime) -> Result<(), Fail> {
     let first = base_disk(alloc)?;
     for say in 0..9 {
         let end = paced(alloc, &first, SCRIPT, &[], &[say], SCRIPT.len())?;
-        assert_eq!(rt; end.status, 6);
+        check_same(&rt, &end.status, &6);
         let replies = end.said.iter().filter(|byte| **byte == b'\n').count();
-        assert_eq!(rt; replies as u64, say);
-        assert!(rt; outlasts::<Succinct>(alloc, &end, Left::Lost)?, "say {say}");
+        check_same(&rt, &(replies as u64), &say);
+        check_that_at(&rt, &say, outlasts::<Succinct>(alloc, &end, Left::Lost)?);
     }
     Ok(())
 }
@@ -304,11 +324,8 @@ fn each_take_failing_in_turn(rt: HostRuntime) -> Result<(), Fail> {
     let first = base_disk(alloc)?;
     for take in 0..69 {
         let end = paced(alloc, &first, SCRIPT, &[take], &[], 1)?;
-        assert_eq!(rt; end.status, 3);
-        assert!(rt;
-            outlasts::<Succinct>(alloc, &end, Left::Lost)?,
-            "take {take}"
-        );
+        check_same(&rt, &end.status, &3);
+        check_that_at(&rt, &take, outlasts::<Succinct>(alloc, &end, Left::Lost)?);
     }
     let whole = paced(alloc, &first, SCRIPT, &[0], &[], SCRIPT.len())?;
     check(&rt, &whole, 3, b"", 0);

@@ -1,4 +1,5 @@
 //! A device of the manifest's first format, as the earlier program left it.
+use crate::asserts::{check_same_at, check_that, check_that_at};
 use crate::runs::{check, disk_of, failing, lost, served, written};
 use crate::torn::torn_disks;
 use disk_mem::MemDisk;
@@ -72,12 +73,21 @@ fn a_device_of_format_1_is_served(rt: HostRuntime) -> Result<(), Fail> {
     let written = served(alloc, read.disk, b"put 62 01\nflush\nexplain 616139\n")?;
     let told = b"ok\nok\ntables 2 admitted 0 blocks 0\n";
     check(&rt, &written, 0, told, 1);
-    assert!(rt; stands(&written.disk, 8, b"SRFM\x02\x00\x02\x00\x03"));
+    check_that(&rt, stands(&written.disk, 8, b"SRFM\x02\x00\x02\x00\x03"));
     for row in [72, 136] {
-        assert!(rt; stands(&written.disk, row + 56, b"\x04\x03\x10\x00\x00\x00\x00\x00"));
+        check_that(
+            &rt,
+            stands(&written.disk, row + 56, b"\x04\x03\x10\x00\x00\x00\x00\x00"),
+        );
     }
-    assert!(rt; stands(&written.disk, 200, b"\x42\x4b\xe8\xee\x9a\xcc\x9d\x61"));
-    assert!(rt; stands(&written.disk, 131_080, b"SRFM\x01\x00\x01\x00\x02"));
+    check_that(
+        &rt,
+        stands(&written.disk, 200, b"\x42\x4b\xe8\xee\x9a\xcc\x9d\x61"),
+    );
+    check_that(
+        &rt,
+        stands(&written.disk, 131_080, b"SRFM\x01\x00\x01\x00\x02"),
+    );
     Ok(())
 }
 
@@ -106,18 +116,18 @@ fn a_flush_over_format_1_is_stopped(rt: HostRuntime) -> Result<(), Fail> {
     for call in 0..60 {
         let end = served(alloc, failing(alloc, &first, call)?, b"put 62 01\nflush\n")?;
         if end.status == 0 {
-            assert!(rt; call > 20);
+            check_that(&rt, call > 20);
             return Ok(());
         }
-        assert_eq!(rt; end.status, 4, "call {call}");
+        check_same_at(&rt, &call, &end.status, &4);
         let whole = written(alloc, &end.disk)?;
-        assert!(rt; keeps(alloc, whole, &end.said)?, "call {call}");
+        check_that_at(&rt, &call, keeps(alloc, whole, &end.said)?);
         let none = lost(alloc, &end.disk)?;
-        assert!(rt; keeps(alloc, none, &end.said)?, "call {call}");
+        check_that_at(&rt, &call, keeps(alloc, none, &end.said)?);
         for torn in torn_disks(alloc, &end.disk)? {
-            assert!(rt; keeps(alloc, torn, &end.said)?, "call {call}");
+            check_that_at(&rt, &call, keeps(alloc, torn, &end.said)?);
         }
     }
-    assert!(rt; false, "a call failed each time");
+    check_that_at(&rt, &"a call failed each time", false);
     Ok(())
 }

@@ -1,4 +1,5 @@
 //! Values that are too long for the log, in whole runs.
+use crate::asserts::{check_same_at, check_that, check_that_at};
 use crate::faults::{Left, left_by};
 use crate::runs::{
     Ended, base_disk, check, disk_of, failing, formatted, left_behind, lost, paced, served,
@@ -146,19 +147,19 @@ fn each_call_fails_well(alloc: Global, left: Left) -> Result<bool, Fail> {
 
 #[test]
 fn calls_of_a_long_put_fail_and_their_writes_are_whole(rt: HostRuntime) -> Result<(), Fail> {
-    assert!(rt; each_call_fails_well(rt.alloc(), Left::Whole)?);
+    check_that(&rt, each_call_fails_well(rt.alloc(), Left::Whole)?);
     Ok(())
 }
 
 #[test]
 fn calls_of_a_long_put_fail_and_their_writes_are_lost(rt: HostRuntime) -> Result<(), Fail> {
-    assert!(rt; each_call_fails_well(rt.alloc(), Left::Lost)?);
+    check_that(&rt, each_call_fails_well(rt.alloc(), Left::Lost)?);
     Ok(())
 }
 
 #[test]
 fn calls_of_a_long_put_fail_and_their_writes_are_sevens(rt: HostRuntime) -> Result<(), Fail> {
-    assert!(rt; each_call_fails_well(rt.alloc(), Left::Sevens)?);
+    check_that(&rt, each_call_fails_well(rt.alloc(), Left::Sevens)?);
     Ok(())
 }
 
@@ -170,13 +171,13 @@ fn what_is_said_of_a_long_put_lasts(rt: HostRuntime) -> Result<(), Fail> {
     let lines = script(alloc)?;
     for say in 0..6 {
         let end = paced(alloc, &first, &lines, &[], &[say], 1)?;
-        assert_eq!(rt; end.status, 6, "say {say}");
+        check_same_at(&rt, &say, &end.status, &6);
         let puts = 1 + usize::from(say >= 3);
         for left in [Left::Whole, Left::Lost] {
             let disk = left_by(alloc, &end.disk, left)?;
             let least = finds(alloc, &disk, puts)?;
             let more = finds(alloc, &disk, puts.saturating_add(1))?;
-            assert!(rt; least || more, "say {say}");
+            check_that_at(&rt, &say, least || more);
         }
     }
     Ok(())

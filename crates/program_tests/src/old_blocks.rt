@@ -1,4 +1,5 @@
 //! A store that the program of the stage before left: its table has blocks of format 1, and its log has records.
+use crate::asserts::check_that;
 use crate::formats::stands;
 use crate::runs::{Ended, check, disk_of, served};
 use disk_mem::MemDisk;
@@ -151,7 +152,7 @@ fn a_store_of_old_blocks_is_served_and_compacted(rt: HostRuntime) -> Result<(), 
         let (end, said) = compacted(alloc, device(alloc, slots)?)?;
         check(&rt, &end, 0, &said, 0);
         for (place, block) in NEW_BLOCKS {
-            assert!(rt; stands(&end.disk, place, block));
+            check_that(&rt, stands(&end.disk, place, block));
         }
         let again = served(alloc, end.disk, GETS)?;
         let mut found = Vec::new(alloc);

@@ -1,4 +1,5 @@
 //! Lines and their replies, and the bytes that they leave.
+use crate::asserts::check_same;
 use crate::runs::{Succinct, base_disk, check, disk_of, served, served_by};
 use disk_trait::Disk;
 use filter_api::RangeFilter;
@@ -74,8 +75,8 @@ fn other_example<F: RangeFilter>(alloc: Global) -> Result<Option<usize>, Fail> {
 
 #[test]
 fn each_line_gets_its_reply(rt: HostRuntime) -> Result<(), Fail> {
-    assert_eq!(rt; other_example::<Succinct>(rt.alloc())?, None);
-    assert_eq!(rt; other_example::<PlainFilter>(rt.alloc())?, None);
+    check_same(&rt, &other_example::<Succinct>(rt.alloc())?, &None);
+    check_same(&rt, &other_example::<PlainFilter>(rt.alloc())?, &None);
     Ok(())
 }
 
@@ -85,7 +86,7 @@ fn a_put_leaves_the_bytes_of_its_record(rt: HostRuntime) -> Result<(), Fail> {
     let mut end = served(alloc, base_disk(alloc)?, b"put 61 62\n")?;
     let mut bytes = [9; 11];
     end.disk.read(262_144, &mut bytes)?;
-    assert_eq!(rt; bytes, [1, 1, 1, 0, 1, 0, 0, 0, 0x61, 0x62, 0]);
+    check_same(&rt, &bytes, &[1, 1, 1, 0, 1, 0, 0, 0, 0x61, 0x62, 0]);
     Ok(())
 }
 
@@ -138,7 +139,7 @@ fn a_damaged_block_is_told_where_it_is_read(rt: HostRuntime) -> Result<(), Fail>
     let sums = b"damaged block 786432 sum 587b62ad428b4221 1330a17f9fbb1d44\n";
     check(&rt, &told, 5, sums, 1);
     let read = told.disk.reads().saturating_sub(reads);
-    assert_eq!(rt; read, opening.saturating_mul(2).saturating_add(1));
+    check_same(&rt, &read, &opening.saturating_mul(2).saturating_add(1));
     Ok(())
 }
 

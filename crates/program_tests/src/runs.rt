@@ -1,6 +1,7 @@
 //! Runs of the program in memory.
 //!
 //! Disks, outsides and stores come in boxes: a function that holds one is then proved soon, whatever it owns.
+use crate::asserts::check_same_at;
 use disk_mem::{Choice, MemDisk};
 use filter_api::RangeFilter;
 use outside::MemOutside;
@@ -41,8 +42,8 @@ pub struct Ended {
 
 /// Checks how a run ended. Where runs are numbered, a failing one is told by its number.
 pub fn check(rt: &impl Abort, end: &Ended, status: u8, said: &[u8], number: u64) {
-    assert_eq!(rt; end.said.as_slice(), said, "number {number}");
-    assert_eq!(rt; end.status, status, "number {number}");
+    check_same_at(rt, &number, &end.said.as_slice(), &said);
+    check_same_at(rt, &number, &end.status, &status);
 }
 
 /// An outside over this disk in which nothing fails.

@@ -1,4 +1,5 @@
 //! Merge slices behind puts and deletes.
+use crate::asserts::{check_that, check_that_at};
 use crate::faults::push_large;
 use crate::runs::{
     base_disk, calls_of, check, disk_of, failing, left_behind, lost, served, written,
@@ -71,12 +72,12 @@ fn a_fault_in_a_slice_ends_the_run(rt: HostRuntime) -> Result<(), Fail> {
     let first = four_tables(alloc)?;
     let opened = calls_of(alloc, &first, b"")?;
     let whole = calls_of(alloc, &first, b"put 65 05\n")?;
-    assert!(rt; whole > opened.saturating_add(12));
+    check_that(&rt, whole > opened.saturating_add(12));
     for call in opened.saturating_add(4)..whole {
         let disk = failing(alloc, &first, call as u64)?;
         let end = served(alloc, disk, b"put 65 05\nget 61\n")?;
         check(&rt, &end, 4, b"ok\n", call as u64);
-        assert!(rt; outlasts(alloc, &end.disk)?, "call {call}");
+        check_that_at(&rt, &call, outlasts(alloc, &end.disk)?);
     }
     Ok(())
 }

@@ -1,4 +1,5 @@
 //! Writes that no sync followed, of which a crash leaves 07 in the place of each byte.
+use crate::asserts::{check_same, check_that, check_that_at};
 use crate::faults::{has_all, interrupted, is_told};
 use crate::runs::{Ended, Succinct, base_disk, boxed, lost};
 use disk_mem::{Choice, MemDisk};
@@ -104,14 +105,14 @@ fn calls_fail_and_each_write_is_left_as_sevens(rt: HostRuntime) -> Result<(), Fa
     let first = base_disk(alloc)?;
     for call in 0..200 {
         let end = interrupted::<Succinct>(alloc, &first, call)?;
-        assert!(rt; outlasts(alloc, &end)?, "call {call}");
+        check_that_at(&rt, &call, outlasts(alloc, &end)?);
         if end.status == 0 {
-            assert_eq!(rt; end.disk.starved(), 0);
-            assert!(rt; call > 40);
+            check_same(&rt, &end.disk.starved(), &0);
+            check_that(&rt, call > 40);
             return Ok(());
         }
-        assert!(rt; is_told(&end), "call {call}");
+        check_that_at(&rt, &call, is_told(&end));
     }
-    assert!(rt; false, "it goes on");
+    check_that_at(&rt, &"it goes on", false);
     Ok(())
 }

@@ -1,4 +1,5 @@
 //! What a seek may read.
+use crate::asserts::{check_same, check_that};
 use plain_filter::PlainFilter;
 use plain_store::{Reply, Request, get_bound, seek_bound};
 use std::test::Fail;
@@ -34,18 +35,21 @@ fn a_seek_steps_over_deleted_keys(rt: HostRuntime) -> Result<(), Fail> {
     let state = new_state(rt.alloc(), 512)?;
     let end = played(rt.alloc(), &state, &script)?;
     assert_eq!(rt; end.replies.len(), 16);
-    assert!(rt; matches!(end.replies[15], Reply::At { .. }));
-    assert_eq!(rt;
-        seek_bound::<PlainFilter>(rt.alloc(), &end.state, b"\x01", b"\x0a")?,
-        7
+    check_that(&rt, matches!(end.replies[15], Reply::At { .. }));
+    check_same(
+        &rt,
+        &seek_bound::<PlainFilter>(rt.alloc(), &end.state, b"\x01", b"\x0a")?,
+        &7,
     );
-    assert_eq!(rt;
-        seek_bound::<PlainFilter>(rt.alloc(), &end.state, b"\x0a", b"\x01")?,
-        0
+    check_same(
+        &rt,
+        &seek_bound::<PlainFilter>(rt.alloc(), &end.state, b"\x0a", b"\x01")?,
+        &0,
     );
-    assert_eq!(rt;
-        get_bound::<PlainFilter>(rt.alloc(), &end.state, b"\x03")?,
-        1
+    check_same(
+        &rt,
+        &get_bound::<PlainFilter>(rt.alloc(), &end.state, b"\x03")?,
+        &1,
     );
     Ok(())
 }

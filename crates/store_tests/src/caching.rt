@@ -1,4 +1,5 @@
 //! Blocks that gets keep.
+use crate::asserts::{check_same, check_that, check_that_at};
 use crate::scans::DELETED;
 use byte_fields::{Damage, Part};
 use disk_mem::MemDisk;
@@ -34,7 +35,7 @@ fn a_key_is_asked_for_a_thousand_times_with_one_read(rt: HostRuntime) -> Result<
     let mut disk = disk_of(rt.alloc(), &[])?;
     let mut store = changed(rt.alloc(), &mut disk, &PAIR)?;
     let reads = reads_of(&mut store, &mut disk, b"a", Some(b"b"), 1_000);
-    assert_eq!(rt; reads, Some(1));
+    check_same(&rt, &reads, &Some(1));
     Ok(())
 }
 
@@ -52,16 +53,17 @@ fn a_flush_leaves_what_is_kept(rt: HostRuntime) -> Result<(), Fail> {
     let mut disk = disk_of(rt.alloc(), &[])?;
     let mut store = changed(rt.alloc(), &mut disk, &TWO)?;
     let new = reads_of(&mut store, &mut disk, b"ab", Some(b"new"), 2);
-    assert_eq!(rt; new, Some(1));
-    assert_eq!(rt;
-        apply(&mut store, &mut disk, Change::Put(b"ab", b"newest")),
-        Ok(())
+    check_same(&rt, &new, &Some(1));
+    check_same(
+        &rt,
+        &apply(&mut store, &mut disk, Change::Put(b"ab", b"newest")),
+        &Ok(()),
     );
-    assert_eq!(rt; apply(&mut store, &mut disk, Change::Flush), Ok(()));
+    check_same(&rt, &apply(&mut store, &mut disk, Change::Flush), &Ok(()));
     let newest = reads_of(&mut store, &mut disk, b"ab", Some(b"newest"), 2);
-    assert_eq!(rt; newest, Some(1));
+    check_same(&rt, &newest, &Some(1));
     let older = reads_of(&mut store, &mut disk, b"b", Some(b"c"), 2);
-    assert_eq!(rt; older, Some(0));
+    check_same(&rt, &older, &Some(0));
     Ok(())
 }
 
@@ -75,21 +77,23 @@ fn pages_that_are_used_again_show_no_old_block(rt: HostRuntime) -> Result<(), Fa
     let mut disk = disk_of(rt.alloc(), &[])?;
     let mut store = changed(rt.alloc(), &mut disk, &PAIR)?;
     let first = reads_of(&mut store, &mut disk, b"a", Some(b"b"), 2);
-    assert_eq!(rt; (first, first_value(&disk)), (Some(1), Some(b'b')));
-    assert_eq!(rt;
-        apply(&mut store, &mut disk, Change::Put(b"a", b"c")),
-        Ok(())
+    check_same(&rt, &(first, first_value(&disk)), &(Some(1), Some(b'b')));
+    check_same(
+        &rt,
+        &apply(&mut store, &mut disk, Change::Put(b"a", b"c")),
+        &Ok(()),
     );
-    assert_eq!(rt; store.compact(&mut *disk), Ok(()));
+    check_same(&rt, &store.compact(&mut *disk), &Ok(()));
     let second = reads_of(&mut store, &mut disk, b"a", Some(b"c"), 2);
-    assert_eq!(rt; (second, first_value(&disk)), (Some(1), Some(b'b')));
-    assert_eq!(rt;
-        apply(&mut store, &mut disk, Change::Put(b"a", b"d")),
-        Ok(())
+    check_same(&rt, &(second, first_value(&disk)), &(Some(1), Some(b'b')));
+    check_same(
+        &rt,
+        &apply(&mut store, &mut disk, Change::Put(b"a", b"d")),
+        &Ok(()),
     );
-    assert_eq!(rt; apply(&mut store, &mut disk, Change::Flush), Ok(()));
+    check_same(&rt, &apply(&mut store, &mut disk, Change::Flush), &Ok(()));
     let third = reads_of(&mut store, &mut disk, b"a", Some(b"d"), 2);
-    assert_eq!(rt; (third, first_value(&disk)), (Some(1), Some(b'd')));
+    check_same(&rt, &(third, first_value(&disk)), &(Some(1), Some(b'd')));
     Ok(())
 }
 
@@ -111,15 +115,15 @@ fn damage_is_seen_where_the_block_is_read(rt: HostRuntime) -> Result<(), Fail> {
     let mut disk = disk_of(rt.alloc(), &[])?;
     let mut store = changed(rt.alloc(), &mut disk, &PAIR)?;
     let before = reads_of(&mut store, &mut disk, b"a", Some(b"b"), 1);
-    assert_eq!(rt; before, Some(1));
+    check_same(&rt, &before, &Some(1));
     disk.write(786_440, &[3])?;
     let kept = reads_of(&mut store, &mut disk, b"a", Some(b"b"), 1);
-    assert_eq!(rt; kept, Some(0));
+    check_same(&rt, &kept, &Some(0));
     let mut again = opened(rt.alloc(), &mut disk)?;
     let denied = reads_of(&mut again, &mut disk, b"z", None, 1);
-    assert_eq!(rt; denied, Some(0));
-    assert!(rt; is_damaged(again.get(&mut *disk, b"a")));
-    assert!(rt; is_damaged(again.get(&mut *disk, b"a")));
+    check_same(&rt, &denied, &Some(0));
+    check_that(&rt, is_damaged(again.get(&mut *disk, b"a")));
+    check_that(&rt, is_damaged(again.get(&mut *disk, b"a")));
     Ok(())
 }
 
@@ -138,12 +142,12 @@ fn seek_reads(alloc: Global, store: &PlainStore, disk: &mut MemDisk) -> Result<O
 fn a_seek_reads_past_what_is_kept(rt: HostRuntime) -> Result<(), Fail> {
     let mut disk = disk_of(rt.alloc(), &[])?;
     let mut store = changed(rt.alloc(), &mut disk, &DELETED)?;
-    assert_eq!(rt; seek_reads(rt.alloc(), &store, &mut disk)?, Some(3));
+    check_same(&rt, &seek_reads(rt.alloc(), &store, &mut disk)?, &Some(3));
     let gets = reads_of(&mut store, &mut disk, b"\x03", Some(b"w"), 2);
-    assert_eq!(rt; gets, Some(1));
-    assert_eq!(rt; seek_reads(rt.alloc(), &store, &mut disk)?, Some(3));
+    check_same(&rt, &gets, &Some(1));
+    check_same(&rt, &seek_reads(rt.alloc(), &store, &mut disk)?, &Some(3));
     let kept = reads_of(&mut store, &mut disk, b"\x03", Some(b"w"), 1);
-    assert_eq!(rt; kept, Some(0));
+    check_same(&rt, &kept, &Some(0));
     Ok(())
 }
 
@@ -165,12 +169,12 @@ fn at_most_64_blocks_are_kept(rt: HostRuntime) -> Result<(), Fail> {
     let mut store = many_blocks(rt.alloc(), &mut disk)?;
     for key in 0..65u8 {
         let reads = reads_of(&mut store, &mut disk, &[key], Some(&value), 2);
-        assert_eq!(rt; reads, Some(1));
+        check_same(&rt, &reads, &Some(1));
     }
     let gone = reads_of(&mut store, &mut disk, &[0], Some(&value), 1);
-    assert_eq!(rt; gone, Some(1));
+    check_same(&rt, &gone, &Some(1));
     let kept = reads_of(&mut store, &mut disk, &[2], Some(&value), 1);
-    assert_eq!(rt; kept, Some(0));
+    check_same(&rt, &kept, &Some(0));
     Ok(())
 }
 
@@ -190,7 +194,10 @@ fn each_allocation_of_gets_may_be_refused(rt: HostRuntime) -> Result<(), Fail> {
     let mut disk = disk_of(alloc, &[])?;
     let mut store = changed(alloc, &mut disk, &TWO)?;
     disk.reserve(8, 1 << 16)?;
-    assert!(rt; gets_are_answered(&mut store, &mut disk) && disk.starved() == 0);
-    assert!(rt; is_not_the_last(alloc), "the last allocation");
+    check_that(
+        &rt,
+        gets_are_answered(&mut store, &mut disk) && disk.starved() == 0,
+    );
+    check_that_at(&rt, &"the last allocation", is_not_the_last(alloc));
     Ok(())
 }

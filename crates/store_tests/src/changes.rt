@@ -1,4 +1,5 @@
 //! Changes of a store, with faults and crashes between them.
+use crate::asserts::{check_same, check_that};
 use disk_mem::{Choice, MemDisk};
 use filter_api::{Field, Settings};
 use std::alloc::{AllocError, Global};
@@ -58,10 +59,10 @@ fn puts_are_there_after_a_flush_and_a_reopening(rt: HostRuntime) -> Result<(), F
         let mut disk = formatted(alloc, settings)?;
         let mut store = opened(alloc, &mut disk)?;
         for number in 1..7 {
-            assert_eq!(rt; step(&mut store, &mut disk, number), Ok(()));
-            assert!(rt; is_behind(&mut store, &mut disk, number));
+            check_same(&rt, &step(&mut store, &mut disk, number), &Ok(()));
+            check_that(&rt, is_behind(&mut store, &mut disk, number));
             let mut again = opened(alloc, &mut disk)?;
-            assert!(rt; is_behind(&mut again, &mut disk, number));
+            check_that(&rt, is_behind(&mut again, &mut disk, number));
         }
     }
     Ok(())
@@ -71,32 +72,36 @@ fn puts_are_there_after_a_flush_and_a_reopening(rt: HostRuntime) -> Result<(), F
 fn refusals_in_their_order(rt: HostRuntime) -> Result<(), Fail> {
     let alloc = rt.alloc();
     let mut empty = disk_of(alloc, &[])?;
-    assert!(rt;
+    check_that(
+        &rt,
         matches!(
             PlainStore::open_store(alloc, &mut *empty),
             Err(StoreError::NotAStore)
-        )
+        ),
     );
     let few = PlainStore::format(alloc, &mut *empty, BASE, 511);
-    assert_eq!(rt; few, Err(StoreError::BadSettings(Field::Pages)));
-    assert_eq!(rt; empty.calls(), 3);
+    check_same(&rt, &few, &Err(StoreError::BadSettings(Field::Pages)));
+    check_same(&rt, &empty.calls(), &3);
     let mut disk = formatted(alloc, BASE)?;
-    assert_eq!(rt;
-        PlainStore::format(alloc, &mut *disk, BASE, 512),
-        Err(StoreError::AlreadyAStore)
+    check_same(
+        &rt,
+        &PlainStore::format(alloc, &mut *disk, BASE, 512),
+        &Err(StoreError::AlreadyAStore),
     );
     let mut store = opened(alloc, &mut disk)?;
-    assert_eq!(rt;
-        store.put(&mut *disk, b"", b"c"),
-        Err(StoreError::Limit(Limit::Key(0)))
+    check_same(
+        &rt,
+        &store.put(&mut *disk, b"", b"c"),
+        &Err(StoreError::Limit(Limit::Key(0))),
     );
     let long = sevens(alloc, 1_048_577)?;
-    assert_eq!(rt;
-        store.put(&mut *disk, b"a", &long),
-        Err(StoreError::Limit(Limit::Value(1_048_577)))
+    check_same(
+        &rt,
+        &store.put(&mut *disk, b"a", &long),
+        &Err(StoreError::Limit(Limit::Value(1_048_577))),
     );
-    assert_eq!(rt; store.flush(&mut *disk), Ok(()));
-    assert_eq!(rt; store.get(&mut *disk, b"a"), Ok(None));
+    check_same(&rt, &store.flush(&mut *disk), &Ok(()));
+    check_same(&rt, &store.get(&mut *disk, b"a"), &Ok(None));
     Ok(())
 }
 
@@ -129,12 +134,12 @@ fn a_long_value_is_flushed_with_the_memory(rt: HostRuntime) -> Result<(), Fail> 
     let mut disk = formatted(alloc, BASE)?;
     let mut store = opened(alloc, &mut disk)?;
     let long = sevens(alloc, 65_537)?;
-    assert_eq!(rt; store.put(&mut *disk, b"a", b"b"), Ok(()));
-    assert_eq!(rt; store.put(&mut *disk, b"b", &long), Ok(()));
-    assert!(rt; has_one_table(&disk));
-    assert!(rt; finds_both(&mut store, &mut disk, &long));
+    check_same(&rt, &store.put(&mut *disk, b"a", b"b"), &Ok(()));
+    check_same(&rt, &store.put(&mut *disk, b"b", &long), &Ok(()));
+    check_that(&rt, has_one_table(&disk));
+    check_that(&rt, finds_both(&mut store, &mut disk, &long));
     let mut again = opened(alloc, &mut disk)?;
-    assert!(rt; finds_both(&mut again, &mut disk, &long));
+    check_that(&rt, finds_both(&mut again, &mut disk, &long));
     Ok(())
 }
 
@@ -145,13 +150,17 @@ fn long_values_until_there_is_no_room(rt: HostRuntime) -> Result<(), Fail> {
     let mut store = opened(alloc, &mut disk)?;
     let value = sevens(alloc, 65_536)?;
     for key in 1..22u8 {
-        assert_eq!(rt; store.put(&mut *disk, &[key], &value), Ok(()));
+        check_same(&rt, &store.put(&mut *disk, &[key], &value), &Ok(()));
     }
     let full = StoreError::Full { need: 53, gap: 2 };
-    assert_eq!(rt; store.put(&mut *disk, &[22], &value), Err(full));
-    assert_eq!(rt; store.get(&mut *disk, &[1]), Ok(Some(value.as_slice())));
-    assert_eq!(rt; store.get(&mut *disk, &[22]), Ok(None));
-    assert!(rt; !store.is_stopped());
+    check_same(&rt, &store.put(&mut *disk, &[22], &value), &Err(full));
+    check_same(
+        &rt,
+        &store.get(&mut *disk, &[1]),
+        &Ok(Some(value.as_slice())),
+    );
+    check_same(&rt, &store.get(&mut *disk, &[22]), &Ok(None));
+    check_that(&rt, !store.is_stopped());
     Ok(())
 }
 
@@ -202,7 +211,10 @@ fn each_fails_well(alloc: Global, calls: &[u64], choice: &[Choice]) -> Result<bo
 fn calls_fail_and_their_writes_are_whole(rt: HostRuntime) -> Result<(), Fail> {
     let calls = [0, 3, 6, 9, 12, 15, 18, 21, 24, 27, 30, 33, 36, 39, 42];
     let whole = [Choice::Whole, Choice::Whole, Choice::Whole];
-    assert!(rt; each_fails_well(rt.alloc(), calls.as_slice(), whole.as_slice())?);
+    check_that(
+        &rt,
+        each_fails_well(rt.alloc(), calls.as_slice(), whole.as_slice())?,
+    );
     Ok(())
 }
 
@@ -210,6 +222,9 @@ fn calls_fail_and_their_writes_are_whole(rt: HostRuntime) -> Result<(), Fail> {
 fn calls_fail_and_their_writes_are_lost(rt: HostRuntime) -> Result<(), Fail> {
     let calls = [1, 4, 7, 10, 13, 16, 19, 22, 25, 28, 31, 34, 37, 40, 43];
     let lost = [Choice::Lost, Choice::Lost, Choice::Lost];
-    assert!(rt; each_fails_well(rt.alloc(), calls.as_slice(), lost.as_slice())?);
+    check_that(
+        &rt,
+        each_fails_well(rt.alloc(), calls.as_slice(), lost.as_slice())?,
+    );
     Ok(())
 }

@@ -1,4 +1,5 @@
 //! A store of the manifest's first format, as an earlier program left it: it opens, and its next install stands in the second.
+use crate::asserts::{check_same, check_that, check_that_at};
 use disk_mem::MemDisk;
 use std::alloc::Global;
 use std::test::Fail;
@@ -100,12 +101,12 @@ fn has_pairs(store: &mut PlainStore, disk: &mut MemDisk) -> bool {
 fn a_store_of_format_1_is_opened(rt: HostRuntime) -> Result<(), Fail> {
     let alloc = rt.alloc();
     let mut disk = format_1(alloc)?;
-    assert!(rt; stands(&disk, BODY_B, b"SRFM\x01\x00\x01\x00\x02"));
+    check_that(&rt, stands(&disk, BODY_B, b"SRFM\x01\x00\x01\x00\x02"));
     let calls = disk.calls();
     let mut store = opened(alloc, &mut disk)?;
-    assert!(rt; has_pairs(&mut store, &mut disk));
-    assert!(rt; disk.calls() > calls);
-    assert!(rt; stands(&disk, BODY_B, b"SRFM\x01\x00\x01\x00\x02"));
+    check_that(&rt, has_pairs(&mut store, &mut disk));
+    check_that(&rt, disk.calls() > calls);
+    check_that(&rt, stands(&disk, BODY_B, b"SRFM\x01\x00\x01\x00\x02"));
     Ok(())
 }
 
@@ -117,15 +118,19 @@ fn its_next_version_stands_in_format_2(rt: HostRuntime) -> Result<(), Fail> {
     let mut store = opened(alloc, &mut disk)?;
     apply(&mut store, &mut disk, Change::Put(b"b", b"\x03"))?;
     apply(&mut store, &mut disk, Change::Flush)?;
-    assert!(rt; stands(&disk, BODY_A, b"SRFM\x02\x00\x02\x00\x03"));
-    assert!(rt; stands(&disk, BODY_A + 20, &MIXED));
+    check_that(&rt, stands(&disk, BODY_A, b"SRFM\x02\x00\x02\x00\x03"));
+    check_that(&rt, stands(&disk, BODY_A + 20, &MIXED));
     for row in [BODY_A + 64, BODY_A + 128] {
-        assert!(rt; stands(&disk, row + 56, &MIXED));
+        check_that(&rt, stands(&disk, row + 56, &MIXED));
     }
-    assert!(rt; slot_b_stays(alloc, &disk)?);
+    check_that(&rt, slot_b_stays(alloc, &disk)?);
     let mut again = opened(alloc, &mut disk)?;
-    assert!(rt; has_pairs(&mut again, &mut disk));
-    assert_eq!(rt; again.get(&mut *disk, b"b"), Ok(Some(b"\x03".as_slice())));
+    check_that(&rt, has_pairs(&mut again, &mut disk));
+    check_same(
+        &rt,
+        &again.get(&mut *disk, b"b"),
+        &Ok(Some(b"\x03".as_slice())),
+    );
     Ok(())
 }
 
@@ -135,24 +140,24 @@ fn other_settings_are_installed_over_format_1(rt: HostRuntime) -> Result<(), Fai
     let alloc = rt.alloc();
     let mut disk = format_1(alloc)?;
     let mut store = opened(alloc, &mut disk)?;
-    assert_eq!(rt; store.set_settings(&mut *disk, BASE), Ok(()));
-    assert!(rt; stands(&disk, BODY_A, b"SRFM\x02\x00\x01\x00\x03"));
-    assert!(rt; stands(&disk, BODY_A + 20, &[0, 0, 0x40, 0]));
-    assert!(rt; stands(&disk, BODY_A + 120, &[4, 3, 16, 0, 0, 0, 0, 0]));
-    assert!(rt; slot_b_stays(alloc, &disk)?);
+    check_same(&rt, &store.set_settings(&mut *disk, BASE), &Ok(()));
+    check_that(&rt, stands(&disk, BODY_A, b"SRFM\x02\x00\x01\x00\x03"));
+    check_that(&rt, stands(&disk, BODY_A + 20, &[0, 0, 0x40, 0]));
+    check_that(&rt, stands(&disk, BODY_A + 120, &[4, 3, 16, 0, 0, 0, 0, 0]));
+    check_that(&rt, slot_b_stays(alloc, &disk)?);
     let told = Explained {
         tables: 1,
         admitted: 0,
         blocks: 0,
     };
-    assert_eq!(rt; store.explain(b"aa9"), Ok(told));
+    check_same(&rt, &store.explain(b"aa9"), &Ok(told));
     apply(&mut store, &mut disk, Change::Put(b"b", b"\x03"))?;
     apply(&mut store, &mut disk, Change::Flush)?;
-    assert!(rt; stands(&disk, BODY_B, b"SRFM\x02\x00\x02\x00\x04"));
-    assert!(rt; stands(&disk, BODY_B + 120, &[0, 0, 0x40, 0]));
-    assert!(rt; stands(&disk, BODY_B + 184, &MIXED));
+    check_that(&rt, stands(&disk, BODY_B, b"SRFM\x02\x00\x02\x00\x04"));
+    check_that(&rt, stands(&disk, BODY_B + 120, &[0, 0, 0x40, 0]));
+    check_that(&rt, stands(&disk, BODY_B + 184, &MIXED));
     let mut again = opened(alloc, &mut disk)?;
-    assert!(rt; has_pairs(&mut again, &mut disk));
+    check_that(&rt, has_pairs(&mut again, &mut disk));
     Ok(())
 }
 
@@ -174,7 +179,7 @@ fn an_install_over_format_1_is_stopped_at_each_call(rt: HostRuntime) -> Result<(
     let first = format_1(alloc)?;
     for call in 0..16 {
         for left in [Left::Whole, Left::Lost, Left::Sevens] {
-            assert!(rt; is_kept(alloc, &first, call, left)?, "call {call}");
+            check_that_at(&rt, &call, is_kept(alloc, &first, call, left)?);
         }
     }
     let mut disk = failing_behind(alloc, first.bytes(), 16)?;

@@ -1,4 +1,5 @@
 //! Scripts that come to a limit.
+use crate::asserts::{check_same, check_that};
 use entry_list::Entry;
 use plain_store::{Played, Reply, Request, State, Table};
 use std::alloc::{AllocError, Global};
@@ -47,17 +48,20 @@ fn six_tables_fill_the_device(rt: HostRuntime) -> Result<(), Fail> {
     };
     let first = new_state(alloc, 512)?;
     let (full, done) = filled(alloc, &first, Some(value.as_slice()), 22)?;
-    assert_eq!(rt; done, 21);
+    check_same(&rt, &done, &21);
     let end = asked(alloc, &full.state, put)?;
-    assert!(rt; matches!(end.replies.as_slice(), [Reply::Full { need: 53, gap: 2 }]));
+    check_that(
+        &rt,
+        matches!(end.replies.as_slice(), [Reply::Full { need: 53, gap: 2 }]),
+    );
     let end = asked(alloc, &full.state, Request::Get { key: b"\x01" })?;
-    assert!(rt; matches!(end.replies.as_slice(), [Reply::Value(_)]));
+    check_that(&rt, matches!(end.replies.as_slice(), [Reply::Value(_)]));
     let (empty, done) = filled(alloc, &full.state, None, 22)?;
-    assert_eq!(rt; done, 21);
+    check_same(&rt, &done, &21);
     let end = asked(alloc, &empty.state, Request::Compact)?;
-    assert!(rt; matches!(end.replies.as_slice(), [Reply::Done]));
+    check_that(&rt, matches!(end.replies.as_slice(), [Reply::Done]));
     let end = asked(alloc, &end.state, put)?;
-    assert!(rt; matches!(end.replies.as_slice(), [Reply::Done]));
+    check_that(&rt, matches!(end.replies.as_slice(), [Reply::Done]));
     Ok(())
 }
 
@@ -95,20 +99,21 @@ fn one_table(state: &State) -> Option<(u64, u64, usize)> {
 fn a_value_over_65536_bytes_is_not_logged(rt: HostRuntime) -> Result<(), Fail> {
     let alloc = rt.alloc();
     let logged = behind_two(alloc, b"a", b"b", 65_536)?;
-    assert_eq!(rt; logged.state.log.len(), 2);
-    assert!(rt; logged.state.tables.is_empty());
+    check_same(&rt, &logged.state.log.len(), &2);
+    check_that(&rt, logged.state.tables.is_empty());
     let long = behind_two(alloc, b"a", b"b", 65_537)?;
-    assert_eq!(rt; one_table(&long.state), Some((20, 2, 2)));
+    check_same(&rt, &one_table(&long.state), &Some((20, 2, 2)));
     let same = behind_two(alloc, b"a", b"a", 65_537)?;
-    assert_eq!(rt; one_table(&same.state), Some((19, 1, 1)));
+    check_same(&rt, &one_table(&same.state), &Some((19, 1, 1)));
     let longest = behind_two(alloc, b"a", b"a", 1_048_576)?;
-    assert_eq!(rt; one_table(&longest.state), Some((259, 1, 1)));
+    check_same(&rt, &one_table(&longest.state), &Some((259, 1, 1)));
     let refused = behind_two(alloc, b"a", b"a", 1_048_577)?;
-    assert!(rt;
+    check_that(
+        &rt,
         matches!(
             refused.replies.as_slice(),
             [Reply::Done, Reply::LongValue(1_048_577)]
-        )
+        ),
     );
     Ok(())
 }
@@ -144,8 +149,11 @@ fn a_version_has_at_most_1024_tables(rt: HostRuntime) -> Result<(), Fail> {
         value: b"b",
     };
     let end = played(alloc, &state, &[put, Request::Flush])?;
-    assert!(rt; matches!(end.replies.as_slice(), [Reply::Done, Reply::ManyTables]));
+    check_that(
+        &rt,
+        matches!(end.replies.as_slice(), [Reply::Done, Reply::ManyTables]),
+    );
     let end = asked(alloc, &end.state, Request::Compact)?;
-    assert!(rt; matches!(end.replies.as_slice(), [Reply::Done]));
+    check_that(&rt, matches!(end.replies.as_slice(), [Reply::Done]));
     Ok(())
 }

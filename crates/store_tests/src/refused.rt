@@ -1,4 +1,5 @@
 //! What a refused call leaves, which calls make no call of the device, and how many blocks a merge slice reads.
+use crate::asserts::{check_same, check_that};
 use disk_mem::MemDisk;
 use disk_trait::Disk;
 use std::alloc::{AllocError, Global};
@@ -71,10 +72,10 @@ fn a_merge_that_meets_damage_changes_nothing(rt: HostRuntime) -> Result<(), Fail
         let mut disk = disk_of(alloc, &[])?;
         let mut store = damaged(alloc, &mut disk)?;
         let before = Vec::from_slice(alloc, disk.bytes())?;
-        assert!(rt; tells_damage(&mut store, &mut disk, merging));
-        assert!(rt; disk.bytes().starts_with(&before));
-        assert!(rt; finds_others(&mut store, &mut disk));
-        assert!(rt; has_five_tables(alloc, &mut store, &mut disk)?);
+        check_that(&rt, tells_damage(&mut store, &mut disk, merging));
+        check_that(&rt, disk.bytes().starts_with(&before));
+        check_that(&rt, finds_others(&mut store, &mut disk));
+        check_that(&rt, has_five_tables(alloc, &mut store, &mut disk)?);
     }
     Ok(())
 }
@@ -96,9 +97,9 @@ fn a_store_of_nothing_is_flushed_and_compacted_without_a_call(rt: HostRuntime) -
     let mut disk = disk_of(alloc, &[])?;
     let mut store = last_epoch(alloc, &mut disk)?;
     let calls = disk.calls();
-    assert_eq!(rt; store.flush(&mut *disk), Ok(()));
-    assert_eq!(rt; store.compact(&mut *disk), Ok(()));
-    assert_eq!(rt; disk.calls(), calls);
+    check_same(&rt, &store.flush(&mut *disk), &Ok(()));
+    check_same(&rt, &store.compact(&mut *disk), &Ok(()));
+    check_same(&rt, &disk.calls(), &calls);
     Ok(())
 }
 
@@ -117,13 +118,16 @@ fn limits_are_told_without_a_call(rt: HostRuntime) -> Result<(), Fail> {
     let mut store = changed(alloc, &mut disk, &first)?;
     let calls = disk.calls();
     let key = Err(StoreError::Limit(Limit::Key(1_025)));
-    assert_eq!(rt; store.put(&mut *disk, &name, b"v"), key);
+    check_same(&rt, &store.put(&mut *disk, &name, b"v"), &key);
     let long = sevens(alloc, 1_048_577)?;
     let value = Err(StoreError::Limit(Limit::Value(1_048_577)));
-    assert_eq!(rt; store.put(&mut *disk, b"a", &long), value);
+    check_same(&rt, &store.put(&mut *disk, b"a", &long), &value);
     let got = store.get(&mut *disk, &name);
-    assert!(rt; matches!(got, Err(StoreError::Limit(Limit::Key(1_025)))));
-    assert_eq!(rt; disk.calls(), calls);
+    check_that(
+        &rt,
+        matches!(got, Err(StoreError::Limit(Limit::Key(1_025)))),
+    );
+    check_same(&rt, &disk.calls(), &calls);
     Ok(())
 }
 
@@ -135,12 +139,12 @@ fn no_room_is_told_without_a_call(rt: HostRuntime) -> Result<(), Fail> {
     let mut disk = disk_of(alloc, &[])?;
     let mut store = changed(alloc, &mut disk, &[])?;
     for key in 1..22u8 {
-        assert_eq!(rt; store.put(&mut *disk, &[key], &value), Ok(()));
+        check_same(&rt, &store.put(&mut *disk, &[key], &value), &Ok(()));
     }
     let calls = disk.calls();
     let full = Err(StoreError::Full { need: 53, gap: 2 });
-    assert_eq!(rt; store.put(&mut *disk, &[22], &value), full);
-    assert_eq!(rt; disk.calls(), calls);
+    check_same(&rt, &store.put(&mut *disk, &[22], &value), &full);
+    check_same(&rt, &disk.calls(), &calls);
     Ok(())
 }
 
@@ -164,8 +168,8 @@ fn a_slice_of_eight_reads_eight_blocks(rt: HostRuntime) -> Result<(), Fail> {
     let mut store = sixteen_blocks(alloc, &mut disk)?;
     for _ in 0..2 {
         let before = disk.reads();
-        assert!(rt; matches!(store.tend(&mut *disk, 8), Ok(Tended::Worked)));
-        assert_eq!(rt; disk.reads().saturating_sub(before), 8);
+        check_that(&rt, matches!(store.tend(&mut *disk, 8), Ok(Tended::Worked)));
+        check_same(&rt, &disk.reads().saturating_sub(before), &8);
     }
     Ok(())
 }

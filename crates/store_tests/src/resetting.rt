@@ -1,4 +1,5 @@
 //! Settings that change, and stores that grow.
+use crate::asserts::{check_same, check_same_at, check_that, check_that_at};
 use byte_fields::fnv1a;
 use disk_mem::MemDisk;
 use disk_trait::Disk;
@@ -110,20 +111,26 @@ fn new_tables_get_the_new_settings(rt: HostRuntime) -> Result<(), Fail> {
     let alloc = rt.alloc();
     let mut disk = disk_of(alloc, &[])?;
     let mut store = changed(alloc, &mut disk, &TWO_KEYS)?;
-    assert_eq!(rt; store.set_settings(&mut *disk, HASHED), Ok(()));
-    assert!(rt; is_body(&disk, BODY_A, 3, &HASHED_BYTES));
-    assert!(rt; is_row(&disk, BODY_A, 0, &BASE_BYTES));
-    assert!(rt; is_body(&disk, BODY_B, 2, &BASE_BYTES));
-    assert!(rt; stands(&disk, GATE_A, &[1]) && stands(&disk, GATE_B, &[1]));
-    assert_eq!(rt; store.explain(b"aa9"), explained(1, 1, 1));
+    check_same(&rt, &store.set_settings(&mut *disk, HASHED), &Ok(()));
+    check_that(&rt, is_body(&disk, BODY_A, 3, &HASHED_BYTES));
+    check_that(&rt, is_row(&disk, BODY_A, 0, &BASE_BYTES));
+    check_that(&rt, is_body(&disk, BODY_B, 2, &BASE_BYTES));
+    check_that(
+        &rt,
+        stands(&disk, GATE_A, &[1]) && stands(&disk, GATE_B, &[1]),
+    );
+    check_same(&rt, &store.explain(b"aa9"), &explained(1, 1, 1));
     apply(&mut store, &mut disk, Change::Put(b"b", b"\x01"))?;
     apply(&mut store, &mut disk, Change::Flush)?;
-    assert_eq!(rt; store.explain(b"b9"), explained(2, 0, 0));
-    assert!(rt; is_row(&disk, BODY_B, 0, &HASHED_BYTES) && is_row(&disk, BODY_B, 1, &BASE_BYTES));
+    check_same(&rt, &store.explain(b"b9"), &explained(2, 0, 0));
+    check_that(
+        &rt,
+        is_row(&disk, BODY_B, 0, &HASHED_BYTES) && is_row(&disk, BODY_B, 1, &BASE_BYTES),
+    );
     store.compact(&mut *disk)?;
-    assert_eq!(rt; store.explain(b"aa9"), explained(1, 0, 0));
+    check_same(&rt, &store.explain(b"aa9"), &explained(1, 0, 0));
     let again = opened(alloc, &mut disk)?;
-    assert_eq!(rt; again.explain(b"aa9"), explained(1, 0, 0));
+    check_same(&rt, &again.explain(b"aa9"), &explained(1, 0, 0));
     Ok(())
 }
 
@@ -133,10 +140,13 @@ fn the_same_settings_have_an_epoch_of_their_own(rt: HostRuntime) -> Result<(), F
     let alloc = rt.alloc();
     let mut disk = disk_of(alloc, &[])?;
     let mut store = changed(alloc, &mut disk, &TWO_KEYS)?;
-    assert_eq!(rt; store.set_settings(&mut *disk, BASE), Ok(()));
-    assert!(rt; is_body(&disk, BODY_A, 3, &BASE_BYTES));
-    assert_eq!(rt; store.set_settings(&mut *disk, OTHERS), Ok(()));
-    assert!(rt; is_body(&disk, BODY_B, 4, &OTHERS_BYTES) && is_row(&disk, BODY_B, 0, &BASE_BYTES));
+    check_same(&rt, &store.set_settings(&mut *disk, BASE), &Ok(()));
+    check_that(&rt, is_body(&disk, BODY_A, 3, &BASE_BYTES));
+    check_same(&rt, &store.set_settings(&mut *disk, OTHERS), &Ok(()));
+    check_that(
+        &rt,
+        is_body(&disk, BODY_B, 4, &OTHERS_BYTES) && is_row(&disk, BODY_B, 0, &BASE_BYTES),
+    );
     Ok(())
 }
 
@@ -158,12 +168,16 @@ fn a_full_store_that_grows_has_room(rt: HostRuntime) -> Result<(), Fail> {
     let mut disk = disk_of(alloc, &[])?;
     let mut store = full(alloc, &mut disk, &value)?;
     let no_room = Err(StoreError::Full { need: 53, gap: 2 });
-    assert_eq!(rt; store.put(&mut *disk, &[22], &value), no_room);
-    assert_eq!(rt; store.grow(&mut *disk, 600), Ok(()));
-    assert_eq!(rt; store.put(&mut *disk, &[22], &value), Ok(()));
+    check_same(&rt, &store.put(&mut *disk, &[22], &value), &no_room);
+    check_same(&rt, &store.grow(&mut *disk, 600), &Ok(()));
+    check_same(&rt, &store.put(&mut *disk, &[22], &value), &Ok(()));
     let mut again = opened(alloc, &mut disk)?;
     for key in 1..23u8 {
-        assert_eq!(rt; again.get(&mut *disk, &[key]), Ok(Some(value.as_slice())));
+        check_same(
+            &rt,
+            &again.get(&mut *disk, &[key]),
+            &Ok(Some(value.as_slice())),
+        );
     }
     Ok(())
 }
@@ -204,7 +218,7 @@ fn a_full_store_grows_by_more_pages_alone(rt: HostRuntime) -> Result<(), Fail> {
     ];
     for (pages, grown, put) in rows {
         let so = full_grows_so(alloc, first.bytes(), pages, grown, put)?;
-        assert!(rt; so, "{pages} pages");
+        check_that_at(&rt, &pages, so);
     }
     Ok(())
 }
@@ -229,7 +243,7 @@ fn grows_to(alloc: Global, pages: u64) -> Result<bool, Fail> {
 #[test]
 fn the_most_and_the_present_pages_are_in_range(rt: HostRuntime) -> Result<(), Fail> {
     for pages in [512, 600, 16_777_216] {
-        assert!(rt; grows_to(rt.alloc(), pages)?, "{pages} pages");
+        check_that_at(&rt, &pages, grows_to(rt.alloc(), pages)?);
     }
     Ok(())
 }
@@ -245,9 +259,9 @@ fn pages_out_of_range_are_told_without_a_call(rt: HostRuntime) -> Result<(), Fai
     let calls = disk.calls();
     let bad = Err(StoreError::BadSettings(Field::Pages));
     for pages in [0, 5, 511, 16_777_217, 4_294_967_808] {
-        assert_eq!(rt; store.grow(&mut *disk, pages), bad, "{pages} pages");
+        check_same_at(&rt, &pages, &store.grow(&mut *disk, pages), &bad);
     }
-    assert_eq!(rt; disk.calls(), calls);
+    check_same(&rt, &disk.calls(), &calls);
     Ok(())
 }
 
@@ -269,10 +283,10 @@ fn the_first_setting_out_of_range_is_told_without_a_call(rt: HostRuntime) -> Res
             ratio: 64,
         };
         let bad = Err(StoreError::BadSettings(field));
-        assert_eq!(rt; store.set_settings(&mut *disk, settings), bad);
+        check_same(&rt, &store.set_settings(&mut *disk, settings), &bad);
     }
-    assert_eq!(rt; disk.calls(), calls);
-    assert_eq!(rt; store.explain(b"aa9"), explained(1, 1, 1));
+    check_same(&rt, &disk.calls(), &calls);
+    check_same(&rt, &store.explain(b"aa9"), &explained(1, 1, 1));
     Ok(())
 }
 
@@ -307,7 +321,10 @@ fn a_row_of_any_ratio_is_opened(rt: HostRuntime) -> Result<(), Fail> {
     let mut store = opened(alloc, &mut disk)?;
     apply(&mut store, &mut disk, Change::Put(b"b", b"\x01"))?;
     apply(&mut store, &mut disk, Change::Flush)?;
-    assert!(rt; is_row(&disk, BODY_A, 0, &BASE_BYTES) && is_row(&disk, BODY_A, 1, &ratio));
+    check_that(
+        &rt,
+        is_row(&disk, BODY_A, 0, &BASE_BYTES) && is_row(&disk, BODY_A, 1, &ratio),
+    );
     Ok(())
 }
 
@@ -331,12 +348,12 @@ fn no_epoch_is_left(rt: HostRuntime) -> Result<(), Fail> {
     let mut store = at_last_epoch(alloc, &mut disk, &TWO_KEYS, BODY_B as u32, 1)?;
     let calls = disk.calls();
     let last = Err(StoreError::Limit(Limit::Epoch));
-    assert_eq!(rt; store.set_settings(&mut *disk, BASE), last);
-    assert_eq!(rt; store.grow(&mut *disk, 600), last);
-    assert_eq!(rt; store.grow(&mut *disk, 512), last);
+    check_same(&rt, &store.set_settings(&mut *disk, BASE), &last);
+    check_same(&rt, &store.grow(&mut *disk, 600), &last);
+    check_same(&rt, &store.grow(&mut *disk, 512), &last);
     let bad = Err(StoreError::BadSettings(Field::Pages));
-    assert_eq!(rt; store.grow(&mut *disk, 5), bad);
-    assert_eq!(rt; disk.calls(), calls);
+    check_same(&rt, &store.grow(&mut *disk, 5), &bad);
+    check_same(&rt, &disk.calls(), &calls);
     Ok(())
 }
 
@@ -374,11 +391,12 @@ fn a_merge_begins_anew_with_other_settings(rt: HostRuntime) -> Result<(), Fail> 
     let alloc = rt.alloc();
     let mut disk = disk_of(alloc, &[])?;
     let mut store = merging(alloc, &mut disk)?;
-    assert_eq!(rt; store.set_settings(&mut *disk, OTHERS), Ok(()));
-    assert!(rt; is_body(&disk, BODY_B, 6, &OTHERS_BYTES));
-    assert_eq!(rt; slices(&mut store, &mut disk)?, slices_of_all(alloc)?);
-    assert!(rt;
-        is_body(&disk, BODY_A, 7, &OTHERS_BYTES) && is_row(&disk, BODY_A, 0, &OTHERS_BYTES)
+    check_same(&rt, &store.set_settings(&mut *disk, OTHERS), &Ok(()));
+    check_that(&rt, is_body(&disk, BODY_B, 6, &OTHERS_BYTES));
+    check_same(&rt, &slices(&mut store, &mut disk)?, &slices_of_all(alloc)?);
+    check_that(
+        &rt,
+        is_body(&disk, BODY_A, 7, &OTHERS_BYTES) && is_row(&disk, BODY_A, 0, &OTHERS_BYTES),
     );
     Ok(())
 }
@@ -388,10 +406,13 @@ fn a_merge_begins_anew_in_a_store_that_grew(rt: HostRuntime) -> Result<(), Fail>
     let alloc = rt.alloc();
     let mut disk = disk_of(alloc, &[])?;
     let mut store = merging(alloc, &mut disk)?;
-    assert_eq!(rt; store.grow(&mut *disk, 600), Ok(()));
-    assert!(rt; is_body(&disk, BODY_B, 6, &BASE_BYTES));
-    assert_eq!(rt; slices(&mut store, &mut disk)?, slices_of_all(alloc)?);
-    assert!(rt; is_body(&disk, BODY_A, 7, &BASE_BYTES) && is_row(&disk, BODY_A, 0, &BASE_BYTES));
+    check_same(&rt, &store.grow(&mut *disk, 600), &Ok(()));
+    check_that(&rt, is_body(&disk, BODY_B, 6, &BASE_BYTES));
+    check_same(&rt, &slices(&mut store, &mut disk)?, &slices_of_all(alloc)?);
+    check_that(
+        &rt,
+        is_body(&disk, BODY_A, 7, &BASE_BYTES) && is_row(&disk, BODY_A, 0, &BASE_BYTES),
+    );
     Ok(())
 }
 
@@ -415,15 +436,19 @@ fn a_merge_goes_on_where_numbers_are_out_of_range(rt: HostRuntime) -> Result<(),
         ratio: 7,
     };
     let bits = Err(StoreError::BadSettings(Field::RealBits));
-    assert_eq!(rt; store.set_settings(&mut *disk, settings), bits);
+    check_same(&rt, &store.set_settings(&mut *disk, settings), &bits);
     let pages = Err(StoreError::BadSettings(Field::Pages));
-    assert_eq!(rt; store.grow(&mut *disk, 511), pages);
-    assert_eq!(rt;
-        slices(&mut store, &mut disk)?.saturating_add(1),
-        slices_of_all(alloc)?
+    check_same(&rt, &store.grow(&mut *disk, 511), &pages);
+    check_same(
+        &rt,
+        &slices(&mut store, &mut disk)?.saturating_add(1),
+        &slices_of_all(alloc)?,
     );
-    assert!(rt; is_body(&disk, BODY_B, 6, &BASE_BYTES) && is_row(&disk, BODY_B, 0, &BASE_BYTES));
-    assert!(rt; disk.bytes() == merged(alloc)?.bytes());
+    check_that(
+        &rt,
+        is_body(&disk, BODY_B, 6, &BASE_BYTES) && is_row(&disk, BODY_B, 0, &BASE_BYTES),
+    );
+    check_that(&rt, disk.bytes() == merged(alloc)?.bytes());
     Ok(())
 }
 
@@ -434,15 +459,16 @@ fn a_merge_goes_on_at_the_last_epoch(rt: HostRuntime) -> Result<(), Fail> {
     let mut disk = disk_of(alloc, &[])?;
     let mut store = at_last_epoch(alloc, &mut disk, &FOUR, BODY_A as u32, 4)?;
     let last = Err(StoreError::Limit(Limit::Epoch));
-    assert!(rt; matches!(store.tend(&mut *disk, 1), Ok(Tended::Worked)));
-    assert_eq!(rt; store.set_settings(&mut *disk, OTHERS), last);
-    assert_eq!(rt; store.grow(&mut *disk, 600), last);
+    check_that(&rt, matches!(store.tend(&mut *disk, 1), Ok(Tended::Worked)));
+    check_same(&rt, &store.set_settings(&mut *disk, OTHERS), &last);
+    check_same(&rt, &store.grow(&mut *disk, 600), &last);
     let before = disk.reads();
-    assert_eq!(rt;
-        slices(&mut store, &mut disk),
-        Err(StoreError::Limit(Limit::Epoch))
+    check_same(
+        &rt,
+        &slices(&mut store, &mut disk),
+        &Err(StoreError::Limit(Limit::Epoch)),
     );
-    assert_eq!(rt; disk.reads().saturating_sub(before), 3);
+    check_same(&rt, &disk.reads().saturating_sub(before), &3);
     Ok(())
 }
 
@@ -500,9 +526,9 @@ fn is_done_or_leaves_the_merge(alloc: Global, change: Reset) -> Result<bool, Fai
 #[test]
 fn each_allocation_of_a_reset_may_be_refused(rt: HostRuntime) -> Result<(), Fail> {
     for change in [Reset::Settings, Reset::Pages] {
-        assert!(rt; is_done_or_leaves_the_merge(rt.alloc(), change)?);
+        check_that(&rt, is_done_or_leaves_the_merge(rt.alloc(), change)?);
     }
-    assert!(rt; is_not_the_last(rt.alloc()), "the last allocation");
+    check_that_at(&rt, &"the last allocation", is_not_the_last(rt.alloc()));
     Ok(())
 }
 
@@ -546,7 +572,7 @@ fn a_reset_is_stopped_at_each_call(rt: HostRuntime) -> Result<(), Fail> {
         for call in 0..6 {
             for left in [Left::Whole, Left::Lost, Left::Sevens] {
                 let stopped = is_stopped(alloc, first.bytes(), change, call, left)?;
-                assert!(rt; stopped, "call {call}");
+                check_that_at(&rt, &call, stopped);
             }
         }
     }
@@ -561,9 +587,9 @@ fn a_reset_reads_nothing(rt: HostRuntime) -> Result<(), Fail> {
         let mut disk = disk_of(alloc, &[])?;
         let mut store = changed(alloc, &mut disk, &FOUR)?;
         let (calls, reads) = (disk.calls(), disk.reads());
-        assert_eq!(rt; make_reset(&mut store, &mut disk, change), Ok(()));
-        assert_eq!(rt; disk.calls().saturating_sub(calls), 6);
-        assert_eq!(rt; disk.reads(), reads);
+        check_same(&rt, &make_reset(&mut store, &mut disk, change), &Ok(()));
+        check_same(&rt, &disk.calls().saturating_sub(calls), &6);
+        check_same(&rt, &disk.reads(), &reads);
     }
     Ok(())
 }

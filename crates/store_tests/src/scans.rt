@@ -1,4 +1,5 @@
 //! Pairs of a store between two bounds, one by one and counted, with faults and damage between them.
+use crate::asserts::{check_same, check_that};
 use byte_fields::{Damage, Part};
 use disk_mem::MemDisk;
 use disk_trait::Disk;
@@ -45,8 +46,8 @@ fn a_closed_seek_steps_over_deleted_keys(rt: HostRuntime) -> Result<(), Fail> {
     let store = changed(rt.alloc(), &mut disk, &DELETED)?;
     let mut scan = seek_of(rt.alloc(), &store, b"\x01", Some(b"\x0a"))?;
     let reads = disk.reads();
-    assert!(rt; gives(&mut scan, &mut disk, Some((b"\x03", b"w"))));
-    assert_eq!(rt; disk.reads().saturating_sub(reads), 3);
+    check_that(&rt, gives(&mut scan, &mut disk, Some((b"\x03", b"w"))));
+    check_same(&rt, &disk.reads().saturating_sub(reads), &3);
     Ok(())
 }
 
@@ -85,11 +86,14 @@ fn first_is(
 #[test]
 fn a_seek_gives_the_first_pair(rt: HostRuntime) -> Result<(), Fail> {
     let alloc = rt.alloc();
-    assert!(rt; first_is(alloc, &HIDDEN, b"`", Some(b"b"), None)?);
-    assert!(rt; first_is(alloc, &HIDDEN, b"", None, Some((b"c", b"\x03")))?);
-    assert!(rt; first_is(alloc, &SHORT, b"", None, Some((b"a", b"")))?);
-    assert!(rt; first_is(alloc, &SHORT, b"b", Some(b"a"), None)?);
-    assert!(rt; first_is(alloc, &SHORT, b"c", None, None)?);
+    check_that(&rt, first_is(alloc, &HIDDEN, b"`", Some(b"b"), None)?);
+    check_that(
+        &rt,
+        first_is(alloc, &HIDDEN, b"", None, Some((b"c", b"\x03")))?,
+    );
+    check_that(&rt, first_is(alloc, &SHORT, b"", None, Some((b"a", b"")))?);
+    check_that(&rt, first_is(alloc, &SHORT, b"b", Some(b"a"), None)?);
+    check_that(&rt, first_is(alloc, &SHORT, b"c", None, None)?);
     Ok(())
 }
 
@@ -102,10 +106,10 @@ fn count_of(alloc: Global, changes: &[Change<'_>], low: &[u8], high: &[u8]) -> R
 #[test]
 fn pairs_are_counted_and_tombstones_are_not(rt: HostRuntime) -> Result<(), Fail> {
     let alloc = rt.alloc();
-    assert_eq!(rt; count_of(alloc, &DELETED, b"", b"z")?, 8);
-    assert_eq!(rt; count_of(alloc, &HIDDEN, b"", b"z")?, 1);
-    assert_eq!(rt; count_of(alloc, &SHORT, b"b", b"a")?, 0);
-    assert_eq!(rt; count_of(alloc, &FLUSHED, b"aa5", b"ab0")?, 0);
+    check_same(&rt, &count_of(alloc, &DELETED, b"", b"z")?, &8);
+    check_same(&rt, &count_of(alloc, &HIDDEN, b"", b"z")?, &1);
+    check_same(&rt, &count_of(alloc, &SHORT, b"b", b"a")?, &0);
+    check_same(&rt, &count_of(alloc, &FLUSHED, b"aa5", b"ab0")?, &0);
     Ok(())
 }
 
@@ -148,7 +152,11 @@ fn nothing_is_read_behind_the_last_pair_of_a_range(rt: HostRuntime) -> Result<()
     let store = three_blocks(rt.alloc(), &mut disk, &value)?;
     for most in 0..4 {
         let mut scan = range_of(rt.alloc(), &store, b"", b"z", most)?;
-        assert_eq!(rt; pairs_of(&mut scan, &mut disk), Ok((most, most, true)));
+        check_same(
+            &rt,
+            &pairs_of(&mut scan, &mut disk),
+            &Ok((most, most, true)),
+        );
     }
     Ok(())
 }
@@ -186,10 +194,18 @@ fn bounds_that_are_too_long(rt: HostRuntime) -> Result<(), Fail> {
     let store = changed(rt.alloc(), &mut disk, &SHORT)?;
     let long = vec![in rt.alloc(); 7; 1_026]?;
     let (most, more) = (&long[..1_024], &long[..1_025]);
-    assert_eq!(rt; refused(&store, &mut disk, most, most)?, None);
-    assert_eq!(rt; refused(&store, &mut disk, more, &long)?, too_long(1_025));
-    assert_eq!(rt; refused(&store, &mut disk, b"", &long)?, too_long(1_026));
-    assert_eq!(rt; why_of(store.seek(&long, None)), too_long(1_026));
+    check_same(&rt, &refused(&store, &mut disk, most, most)?, &None);
+    check_same(
+        &rt,
+        &refused(&store, &mut disk, more, &long)?,
+        &too_long(1_025),
+    );
+    check_same(
+        &rt,
+        &refused(&store, &mut disk, b"", &long)?,
+        &too_long(1_026),
+    );
+    check_same(&rt, &why_of(store.seek(&long, None)), &too_long(1_026));
     Ok(())
 }
 
@@ -241,9 +257,10 @@ fn a_range_goes_on_behind_a_read_that_failed(rt: HostRuntime) -> Result<(), Fail
     three_blocks(alloc, &mut disk, &value)?;
     let marks: [&[u8]; 4] = [b"!abc.", b"a!bc.", b"ab!c.", b"abc.."];
     for read in 0..4 {
-        assert_eq!(rt;
-            with_fault(alloc, disk.bytes(), read)?.as_slice(),
-            marks[read]
+        check_same(
+            &rt,
+            &with_fault(alloc, disk.bytes(), read)?.as_slice(),
+            &marks[read],
         );
     }
     Ok(())
@@ -269,15 +286,17 @@ fn a_range_stands_before_a_block_that_is_damaged(rt: HostRuntime) -> Result<(), 
     let store = three_blocks(alloc, &mut disk, &value)?;
     disk.write(791_528, &[6])?;
     let mut scan = range_of(alloc, &store, b"", b"z", 9)?;
-    assert_eq!(rt;
-        walked(alloc, &mut scan, &mut disk, 3)?.as_slice(),
-        b"a##".as_slice()
+    check_same(
+        &rt,
+        &walked(alloc, &mut scan, &mut disk, 3)?.as_slice(),
+        &b"a##".as_slice(),
     );
-    assert!(rt; is_damage(scan.advance(&mut *disk).err()));
+    check_that(&rt, is_damage(scan.advance(&mut *disk).err()));
     disk.write(791_528, &[7])?;
-    assert_eq!(rt;
-        walked(alloc, &mut scan, &mut disk, 3)?.as_slice(),
-        b"bc.".as_slice()
+    check_same(
+        &rt,
+        &walked(alloc, &mut scan, &mut disk, 3)?.as_slice(),
+        &b"bc.".as_slice(),
     );
     Ok(())
 }
@@ -299,7 +318,7 @@ fn a_seek_over_sixty_tables_reads_a_block_of_each(rt: HostRuntime) -> Result<(),
     let store = sixty_tables(rt.alloc(), &mut disk)?;
     let mut scan = seek_of(rt.alloc(), &store, b"", None)?;
     let reads = disk.reads();
-    assert!(rt; gives(&mut scan, &mut disk, Some((b"\x00", b"v"))));
-    assert_eq!(rt; disk.reads().saturating_sub(reads), 60);
+    check_that(&rt, gives(&mut scan, &mut disk, Some((b"\x00", b"v"))));
+    check_same(&rt, &disk.reads().saturating_sub(reads), &60);
     Ok(())
 }

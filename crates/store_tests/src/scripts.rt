@@ -1,4 +1,5 @@
 //! Scripts and their replies.
+use crate::asserts::{check_same, check_that};
 use plain_store::{Played, Reply, Request, Table};
 use std::alloc::{AllocError, Global};
 use std::test::Fail;
@@ -56,11 +57,11 @@ fn a_tombstone_hides_and_a_compaction_drops_it(rt: HostRuntime) -> Result<(), Fa
     ];
     let end = begun(rt.alloc(), &script)?;
     assert_eq!(rt; end.replies.len(), 8);
-    assert!(rt; all_done(&end.replies[..4]));
-    assert!(rt; matches!(end.replies[4], Reply::Missing));
-    assert!(rt; matches!(end.replies[5], Reply::Done));
-    assert!(rt; matches!(end.replies[6], Reply::Missing));
-    assert!(rt; is_explained(&end.replies[7], 0, 0, 0));
+    check_that(&rt, all_done(&end.replies[..4]));
+    check_that(&rt, matches!(end.replies[4], Reply::Missing));
+    check_that(&rt, matches!(end.replies[5], Reply::Done));
+    check_that(&rt, matches!(end.replies[6], Reply::Missing));
+    check_that(&rt, is_explained(&end.replies[7], 0, 0, 0));
     Ok(())
 }
 
@@ -80,13 +81,13 @@ fn what_one_table_says_of_keys(rt: HostRuntime) -> Result<(), Fail> {
     ];
     let end = begun(rt.alloc(), &script)?;
     assert_eq!(rt; end.replies.len(), 9);
-    assert!(rt; all_done(&end.replies[..3]));
-    assert!(rt; matches!(end.replies[3], Reply::Counted(0)));
-    assert!(rt; matches!(end.replies[4], Reply::About(2)));
-    assert!(rt; is_explained(&end.replies[5], 1, 1, 1));
-    assert!(rt; is_explained(&end.replies[6], 1, 1, 0));
-    assert!(rt; is_explained(&end.replies[7], 1, 0, 0));
-    assert!(rt; matches!(end.replies[8], Reply::Missing));
+    check_that(&rt, all_done(&end.replies[..3]));
+    check_that(&rt, matches!(end.replies[3], Reply::Counted(0)));
+    check_that(&rt, matches!(end.replies[4], Reply::About(2)));
+    check_that(&rt, is_explained(&end.replies[5], 1, 1, 1));
+    check_that(&rt, is_explained(&end.replies[6], 1, 1, 0));
+    check_that(&rt, is_explained(&end.replies[7], 1, 0, 0));
+    check_that(&rt, matches!(end.replies[8], Reply::Missing));
     Ok(())
 }
 
@@ -116,15 +117,15 @@ fn four_tables_become_one(rt: HostRuntime) -> Result<(), Fail> {
     assert_eq!(rt; tables.len(), 4);
     for i in 0..4 {
         let table = &tables[i];
-        assert!(rt; stands_at(table, 0, 201 - 3 * i as u64, 1));
+        check_that(&rt, stands_at(table, 0, 201 - 3 * i as u64, 1));
     }
     let end = begun(rt.alloc(), &script)?;
-    assert!(rt; all_done(end.replies.as_slice()));
+    check_that(&rt, all_done(end.replies.as_slice()));
     let tables = end.state.tables.as_slice();
     assert_eq!(rt; tables.len(), 1);
     let table = &tables[0];
-    assert!(rt; stands_at(table, 1, 204, 4));
-    assert_eq!(rt; end.state.epoch, 6);
+    check_that(&rt, stands_at(table, 1, 204, 4));
+    check_same(&rt, &end.state.epoch, &6);
     Ok(())
 }
 
@@ -135,9 +136,9 @@ fn nothing_is_flushed_at_the_last_epoch(rt: HostRuntime) -> Result<(), Fail> {
     let script = [put(b"a", b"b"), Request::Flush, get(b"a"), Request::Compact];
     let end = played(rt.alloc(), &state, &script)?;
     assert_eq!(rt; end.replies.len(), 4);
-    assert!(rt; matches!(end.replies[0], Reply::Done));
-    assert!(rt; matches!(end.replies[1], Reply::LastEpoch));
-    assert!(rt; matches!(end.replies[2], Reply::Value(_)));
-    assert!(rt; matches!(end.replies[3], Reply::LastEpoch));
+    check_that(&rt, matches!(end.replies[0], Reply::Done));
+    check_that(&rt, matches!(end.replies[1], Reply::LastEpoch));
+    check_that(&rt, matches!(end.replies[2], Reply::Value(_)));
+    check_that(&rt, matches!(end.replies[3], Reply::LastEpoch));
     Ok(())
 }

@@ -1,5 +1,6 @@
 //! A table whose allocations fail in turn. One is made to fail from outside, by its number, and then the call that wanted
 //! it leaves all as it was and succeeds when it is made again. Where none fails, each call succeeds at once.
+use crate::asserts::check_that;
 use crate::made::{BASE, FIRST_PAGE, Made, Walk, add, new_disk, opened, room, row_at, try_add};
 use byte_fields::Row;
 use disk_mem::MemDisk;
@@ -121,6 +122,6 @@ fn each_allocation_may_fail(rt: HostRuntime) -> Result<(), Fail> {
     let asked = is_asked(&mut made);
     let mut walk = walk_of(rt.alloc(), made)?;
     let said = asked && is_walked(&mut walk);
-    assert!(rt; said && walk.made.disk.starved() == 0);
+    check_that(&rt, said && walk.made.disk.starved() == 0);
     Ok(())
 }

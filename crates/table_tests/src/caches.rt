@@ -1,4 +1,5 @@
 //! A cache of blocks against the order in which they were kept.
+use crate::asserts::{check_same, check_that};
 use crate::made::boxed;
 use block_cache::{BlockCache, MOST_BLOCKS};
 use std::alloc::Global;
@@ -29,7 +30,7 @@ fn keep(
 #[test]
 fn a_block_is_given_to_its_own_numbers_alone(rt: HostRuntime) -> Result<(), Fail> {
     let mut cache = boxed(rt.alloc(), BlockCache::new(rt.alloc())?)?;
-    assert!(rt; cache.is_empty() && cache.newest().is_none());
+    check_that(&rt, cache.is_empty() && cache.newest().is_none());
     let rows = [
         (1, 2, 12),
         (2, 1, 21),
@@ -39,7 +40,7 @@ fn a_block_is_given_to_its_own_numbers_alone(rt: HostRuntime) -> Result<(), Fail
     for (table, block, byte) in rows {
         keep(rt.alloc(), &mut cache, table, block, byte)?;
     }
-    assert_eq!(rt; cache.len(), 3);
+    check_same(&rt, &cache.len(), &3);
     let wanted = [
         (1, 2, Some(4)),
         (2, 1, Some(21)),
@@ -48,10 +49,10 @@ fn a_block_is_given_to_its_own_numbers_alone(rt: HostRuntime) -> Result<(), Fail
         (3, 2, None),
     ];
     for (table, block, byte) in wanted {
-        assert_eq!(rt; first_byte(&mut cache, table, block), byte);
+        check_same(&rt, &first_byte(&mut cache, table, block), &byte);
     }
-    assert!(rt; cache.bring_first(2, 1));
-    assert!(rt; matches!(cache.newest(), Some([21, ..])));
+    check_that(&rt, cache.bring_first(2, 1));
+    check_that(&rt, matches!(cache.newest(), Some([21, ..])));
     Ok(())
 }
 
@@ -61,16 +62,16 @@ fn the_block_that_was_asked_for_longest_ago_goes(rt: HostRuntime) -> Result<(), 
     for number in 0..64u8 {
         keep(rt.alloc(), &mut cache, 7, u32::from(number), number)?;
     }
-    assert_eq!(rt; first_byte(&mut cache, 7, 0), Some(0));
+    check_same(&rt, &first_byte(&mut cache, 7, 0), &Some(0));
     keep(rt.alloc(), &mut cache, 8, 0, 64)?;
-    assert_eq!(rt; cache.len(), MOST_BLOCKS);
+    check_same(&rt, &cache.len(), &MOST_BLOCKS);
     for (table, block, byte) in [
         (7, 1, None),
         (7, 0, Some(0)),
         (7, 2, Some(2)),
         (8, 0, Some(64)),
     ] {
-        assert_eq!(rt; first_byte(&mut cache, table, block), byte);
+        check_same(&rt, &first_byte(&mut cache, table, block), &byte);
     }
     Ok(())
 }

@@ -1,6 +1,7 @@
 //! Changed bytes, and what is said of them.
 ghost use Rattle.block_model.specs.Places.{FitsDevice};
 
+use crate::asserts::{check_same, check_that};
 use crate::made::{one_entry, opened, room};
 use byte_fields::{Damage, Part, Row, fnv1a};
 use disk_mem::MemDisk;
@@ -76,9 +77,10 @@ fn each_rule_of_an_index_at_its_byte(rt: HostRuntime) -> Result<(), Fail> {
     for (place, byte, at, rule) in rows {
         let (mut disk, mut row) = one_entry(alloc)?;
         row.index_sum = change_index(&mut disk, place, &[byte])?;
-        assert_eq!(rt;
-            fault_of(alloc, &mut disk, &row)?,
-            shape(Part::Index, INDEX + at, rule)
+        check_same(
+            &rt,
+            &fault_of(alloc, &mut disk, &row)?,
+            &shape(Part::Index, INDEX + at, rule),
         );
     }
     Ok(())
@@ -90,14 +92,15 @@ fn an_index_of_another_length(rt: HostRuntime) -> Result<(), Fail> {
     let alloc = rt.alloc();
     let (mut disk, mut row) = one_entry(alloc)?;
     let mut bytes = [0; 27];
-    assert!(rt; disk.read(INDEX, &mut bytes).is_ok());
+    check_that(&rt, disk.read(INDEX, &mut bytes).is_ok());
     let rows: [(&[u8], u64, u8); 2] = [(&bytes[..25], 25, 1), (&bytes, 26, 7)];
     for (index, at, rule) in rows {
         row.index_len = index.len() as u64;
         row.index_sum = fnv1a(index);
-        assert_eq!(rt;
-            fault_of(alloc, &mut disk, &row)?,
-            shape(Part::Index, INDEX + at, rule)
+        check_same(
+            &rt,
+            &fault_of(alloc, &mut disk, &row)?,
+            &shape(Part::Index, INDEX + at, rule),
         );
     }
     Ok(())
@@ -110,18 +113,20 @@ fn another_sum_comes_before_the_rules(rt: HostRuntime) -> Result<(), Fail> {
     let alloc = rt.alloc();
     let [_, index, filter] = SUMS;
     let (mut disk, row) = one_entry(alloc)?;
-    assert_eq!(rt; (row.index_sum, row.filter_sum), (index, filter));
-    assert_eq!(rt; fault_of(alloc, &mut disk, &row)?, None);
+    check_same(&rt, &(row.index_sum, row.filter_sum), &(index, filter));
+    check_same(&rt, &fault_of(alloc, &mut disk, &row)?, &None);
     change_index(&mut disk, 11, &[2])?;
-    assert_eq!(rt;
-        fault_of(alloc, &mut disk, &row)?,
-        sums(Part::Index, INDEX, index, 0x79A39C0ACC55B4A8)
+    check_same(
+        &rt,
+        &fault_of(alloc, &mut disk, &row)?,
+        &sums(Part::Index, INDEX, index, 0x79A39C0ACC55B4A8),
     );
     let (mut disk, row) = one_entry(alloc)?;
-    assert!(rt; disk.write(FILTER + 13, &[1]).is_ok());
-    assert_eq!(rt;
-        fault_of(alloc, &mut disk, &row)?,
-        sums(Part::Filter, FILTER, filter, 0x27C6C7E0265E94C1)
+    check_that(&rt, disk.write(FILTER + 13, &[1]).is_ok());
+    check_same(
+        &rt,
+        &fault_of(alloc, &mut disk, &row)?,
+        &sums(Part::Filter, FILTER, filter, 0x27C6C7E0265E94C1),
     );
     Ok(())
 }
@@ -144,11 +149,12 @@ fn fault_of_pages(alloc: Global, pages: u16) -> Result<Option<TableFault>, Fail>
 // The pages of the first are 01 01 00 00, those of the second 02 01 00 00.
 #[test]
 fn a_row_of_an_index_has_257_pages_at_most(rt: HostRuntime) -> Result<(), Fail> {
-    assert_eq!(rt; fault_of_pages(rt.alloc(), 257)?, None);
+    check_same(&rt, &fault_of_pages(rt.alloc(), 257)?, &None);
     let second = BLOCK + 258 * 4_096;
-    assert_eq!(rt;
-        fault_of_pages(rt.alloc(), 258)?,
-        shape(Part::Index, second + 11, 6)
+    check_same(
+        &rt,
+        &fault_of_pages(rt.alloc(), 258)?,
+        &shape(Part::Index, second + 11, 6),
     );
     Ok(())
 }
@@ -177,19 +183,25 @@ fn index_and_filter_are_read_by_themselves(rt: HostRuntime) -> Result<(), Fail> 
     if !fits_device(&row) {
         return Err(Fail::from("no row"));
     }
-    assert_eq!(rt; read_alone(alloc, &mut disk, &row)?, (1, true, true, 192));
-    let found: Result<PlainFilter, TableFault> = read_filter(alloc, &mut *disk, &row);
-    assert_eq!(rt; found.err(), None);
-    change_index(&mut disk, 11, &[2])?;
-    assert!(rt; disk.write(FILTER + 13, &[1]).is_ok());
-    assert_eq!(rt;
-        read_index(alloc, &mut *disk, &row).err(),
-        sums(Part::Index, INDEX, index, 0x79A39C0ACC55B4A8)
+    check_same(
+        &rt,
+        &read_alone(alloc, &mut disk, &row)?,
+        &(1, true, true, 192),
     );
     let found: Result<PlainFilter, TableFault> = read_filter(alloc, &mut *disk, &row);
-    assert_eq!(rt;
-        found.err(),
-        sums(Part::Filter, FILTER, filter, 0x27C6C7E0265E94C1)
+    check_same(&rt, &found.err(), &None);
+    change_index(&mut disk, 11, &[2])?;
+    check_that(&rt, disk.write(FILTER + 13, &[1]).is_ok());
+    check_same(
+        &rt,
+        &read_index(alloc, &mut *disk, &row).err(),
+        &sums(Part::Index, INDEX, index, 0x79A39C0ACC55B4A8),
+    );
+    let found: Result<PlainFilter, TableFault> = read_filter(alloc, &mut *disk, &row);
+    check_same(
+        &rt,
+        &found.err(),
+        &sums(Part::Filter, FILTER, filter, 0x27C6C7E0265E94C1),
     );
     Ok(())
 }
@@ -200,9 +212,10 @@ fn a_filter_of_other_leaves(rt: HostRuntime) -> Result<(), Fail> {
     for entries in [0, 2] {
         let (mut disk, mut row) = one_entry(alloc)?;
         row.entries = entries;
-        assert_eq!(rt;
-            fault_of(alloc, &mut disk, &row)?,
-            shape(Part::Filter, FILTER + 12, 11)
+        check_same(
+            &rt,
+            &fault_of(alloc, &mut disk, &row)?,
+            &shape(Part::Filter, FILTER + 12, 11),
         );
     }
     Ok(())
@@ -216,19 +229,21 @@ fn a_filter_of_other_widths(rt: HostRuntime) -> Result<(), Fail> {
         let (mut disk, mut row) = one_entry(alloc)?;
         row.hash_bits = hash_bits;
         row.real_bits = real_bits;
-        assert_eq!(rt;
-            fault_of(alloc, &mut disk, &row)?,
-            shape(Part::Filter, FILTER + 5, 12)
+        check_same(
+            &rt,
+            &fault_of(alloc, &mut disk, &row)?,
+            &shape(Part::Filter, FILTER + 5, 12),
         );
         row.entries = 2;
-        assert_eq!(rt;
-            fault_of(alloc, &mut disk, &row)?,
-            shape(Part::Filter, FILTER + 12, 11)
+        check_same(
+            &rt,
+            &fault_of(alloc, &mut disk, &row)?,
+            &shape(Part::Filter, FILTER + 12, 11),
         );
     }
     let (mut disk, mut row) = one_entry(alloc)?;
     row.ratio = 65_535;
-    assert_eq!(rt; fault_of(alloc, &mut disk, &row)?, None);
+    check_same(&rt, &fault_of(alloc, &mut disk, &row)?, &None);
     Ok(())
 }
 
@@ -252,11 +267,12 @@ fn a_changed_byte_of_a_block(rt: HostRuntime) -> Result<(), Fail> {
     let alloc = rt.alloc();
     let [block, _, _] = SUMS;
     let (mut disk, row) = one_entry(alloc)?;
-    assert_eq!(rt; get_a(alloc, &mut disk, &row)?, (None, 1));
-    assert!(rt; disk.write(BLOCK + 24, &[1]).is_ok());
-    assert_eq!(rt;
-        get_a(alloc, &mut disk, &row)?,
-        (sums(Part::Block, BLOCK, block, 0xFC0D5768375EC880), 1)
+    check_same(&rt, &get_a(alloc, &mut disk, &row)?, &(None, 1));
+    check_that(&rt, disk.write(BLOCK + 24, &[1]).is_ok());
+    check_same(
+        &rt,
+        &get_a(alloc, &mut disk, &row)?,
+        &(sums(Part::Block, BLOCK, block, 0xFC0D5768375EC880), 1),
     );
     Ok(())
 }
@@ -293,9 +309,10 @@ fn each_rule_of_a_block_at_its_byte(rt: HostRuntime) -> Result<(), Fail> {
     for (place, byte, at, rule) in rows {
         let (mut disk, mut row) = one_entry(alloc)?;
         row.index_sum = change_block(&mut disk, place, &[byte])?;
-        assert_eq!(rt;
-            get_a(alloc, &mut disk, &row)?,
-            (shape(Part::Block, BLOCK.saturating_add(at), rule), 1)
+        check_same(
+            &rt,
+            &get_a(alloc, &mut disk, &row)?,
+            &(shape(Part::Block, BLOCK.saturating_add(at), rule), 1),
         );
     }
     Ok(())
@@ -309,9 +326,10 @@ fn a_block_of_equal_keys(rt: HostRuntime) -> Result<(), Fail> {
     let entry = [1, 1, 0, 0, 0, 1, 0, 0, 0, 0x62];
     change_block(&mut disk, 21, &entry)?;
     row.index_sum = change_block(&mut disk, 0, &[31, 0, 0, 0, 2])?;
-    assert_eq!(rt;
-        get_a(alloc, &mut disk, &row)?,
-        (shape(Part::Block, BLOCK + 21, 6), 1)
+    check_same(
+        &rt,
+        &get_a(alloc, &mut disk, &row)?,
+        &(shape(Part::Block, BLOCK + 21, 6), 1),
     );
     Ok(())
 }
@@ -322,9 +340,10 @@ fn a_block_that_claims_257_pages(rt: HostRuntime) -> Result<(), Fail> {
     let alloc = rt.alloc();
     let (mut disk, mut row) = one_entry(alloc)?;
     row.index_sum = change_block(&mut disk, 0, &1_049_619u32.to_le_bytes())?;
-    assert_eq!(rt;
-        get_a(alloc, &mut disk, &row)?,
-        (shape(Part::Block, BLOCK, 1), 1)
+    check_same(
+        &rt,
+        &get_a(alloc, &mut disk, &row)?,
+        &(shape(Part::Block, BLOCK, 1), 1),
     );
     Ok(())
 }

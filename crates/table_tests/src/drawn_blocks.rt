@@ -1,5 +1,6 @@
 //! Blocks of both formats over drawn entries, beside the plain list of these: each key of a block, the keys beside it and the
 //! parts that it begins with are sought, and the block is walked from each of them.
+use crate::asserts::{check_same, check_that};
 use block_format::{Block, BlockBuilder, read_sum_and_walk, value_of};
 use byte_fields::fnv1a;
 use entry_list::{Entry, lookup, push_copy};
@@ -219,14 +220,21 @@ fn drawn_blocks_of_both_formats(rt: HostRuntime) -> Result<(), Fail> {
         let keys = drawn_keys(alloc, &mut numbers, count)?;
         let list = entries_of(alloc, &mut numbers, &keys)?;
         let list = list.as_slice();
-        assert!(rt; are_entries(list));
+        check_that(&rt, are_entries(list));
         let bytes = built(alloc, list)?;
-        assert_eq!(rt; bytes.as_slice(), block_bytes(alloc, list)?.as_slice());
-        assert!(rt; is_block_of(alloc, &bytes, list, &keys)?);
+        check_same(
+            &rt,
+            &bytes.as_slice(),
+            &block_bytes(alloc, list)?.as_slice(),
+        );
+        check_that(&rt, is_block_of(alloc, &bytes, list, &keys)?);
         let old = old_block_bytes(alloc, list)?;
-        assert!(rt; is_block_of(alloc, &old, list, &keys)?);
+        check_that(&rt, is_block_of(alloc, &old, list, &keys)?);
         let key = key_of(alloc, numbers.draw_to(600))?;
-        assert!(rt; is_read(&bytes, list, &key) && is_read(&old, list, &key));
+        check_that(
+            &rt,
+            is_read(&bytes, list, &key) && is_read(&old, list, &key),
+        );
     }
     Ok(())
 }
@@ -244,11 +252,14 @@ fn drawn_blocks_of_every_size(rt: HostRuntime) -> Result<(), Fail> {
             return Err(Fail::from("no key"));
         };
         let key = key_of(alloc, *number)?;
-        assert!(rt; is_read(&bytes, list, &key));
+        check_that(&rt, is_read(&bytes, list, &key));
         let Ok(block) = Block::read(&bytes) else {
             return Err(Fail::from("no block"));
         };
-        assert!(rt; is_walked(&block, list, None) && are_parts_sought(&block, list, &key));
+        check_that(
+            &rt,
+            is_walked(&block, list, None) && are_parts_sought(&block, list, &key),
+        );
     }
     Ok(())
 }

@@ -1,4 +1,5 @@
 //! Tables on a device whose calls fail in turn.
+use crate::asserts::{check_same, check_same_at};
 use crate::made::{
     BASE, FIRST_PAGE, Made, Walk, add, boxed, key_of, new_disk, numbered, room, value_of,
 };
@@ -101,15 +102,16 @@ fn every_call_fails_in_turn(rt: HostRuntime) -> Result<(), Fail> {
     let alloc = rt.alloc();
     for (call, (op, at)) in CALLS.iter().copied().enumerate() {
         let mut disk = failing_disk(alloc, call as u64)?;
-        assert_eq!(rt;
-            run(alloc, &mut disk)?,
-            Some(TableFault::Device(DiskFault { op, at })),
-            "call {call}"
+        check_same_at(
+            &rt,
+            &call,
+            &run(alloc, &mut disk)?,
+            &Some(TableFault::Device(DiskFault { op, at })),
         );
     }
     let mut disk = new_disk(alloc)?;
-    assert_eq!(rt; run(alloc, &mut disk)?, None);
-    assert_eq!(rt; disk.calls(), CALLS.len());
+    check_same(&rt, &run(alloc, &mut disk)?, &None);
+    check_same(&rt, &disk.calls(), &CALLS.len());
     Ok(())
 }
 
@@ -137,7 +139,7 @@ fn failed_steps(alloc: Global, call: u64) -> Result<usize, Fail> {
 #[test]
 fn a_walk_loses_no_entry_at_a_fault(rt: HostRuntime) -> Result<(), Fail> {
     for (call, failed) in [(6, 1), (7, 1), (8, 0)] {
-        assert_eq!(rt; failed_steps(rt.alloc(), call)?, failed);
+        check_same(&rt, &failed_steps(rt.alloc(), call)?, &failed);
     }
     Ok(())
 }

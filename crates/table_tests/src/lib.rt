@@ -8,6 +8,8 @@
 #[cfg(test)]
 mod allocations;
 #[cfg(test)]
+mod asserts;
+#[cfg(test)]
 mod blocks;
 #[cfg(test)]
 mod caches;

@@ -4,6 +4,7 @@ ghost use Rattle.std.specs.List.{AllByRecursion};
 ghost use Rattle.entry_model.specs.Entries.{IsEntry};
 ghost use Rattle.merge_rows.specs.Steps.{AreWalksIn, stands};
 
+use crate::asserts::{check_same, check_that, check_that_at};
 use crate::made::{
     BASE, FIRST_PAGE, add, boxed, bytes_in, key_of, new_disk, opened, row_at, size_of,
 };
@@ -232,9 +233,9 @@ fn merges(
 
 #[test]
 fn rows_are_those_of_a_plain_body(rt: HostRuntime) -> Result<(), Fail> {
-    assert!(rt; merges(rt.alloc(), 0, true, false, None)?);
-    assert!(rt; merges(rt.alloc(), 333, true, true, None)?);
-    assert!(rt; merges(rt.alloc(), 0, false, true, None)?);
+    check_that(&rt, merges(rt.alloc(), 0, true, false, None)?);
+    check_that(&rt, merges(rt.alloc(), 333, true, true, None)?);
+    check_that(&rt, merges(rt.alloc(), 0, false, true, None)?);
     Ok(())
 }
 
@@ -242,9 +243,10 @@ fn rows_are_those_of_a_plain_body(rt: HostRuntime) -> Result<(), Fail> {
 #[test]
 fn no_row_is_lost_at_a_fault(rt: HostRuntime) -> Result<(), Fail> {
     for call in 0..6 {
-        assert!(rt;
+        check_that_at(
+            &rt,
+            &call,
             merges(rt.alloc(), 0, true, call % 2 == 0, Some(call))?,
-            "call {call}"
         );
     }
     Ok(())
@@ -276,15 +278,15 @@ fn blocks_are_read_as_rows_want_them(rt: HostRuntime) -> Result<(), Fail> {
     let tables = tables_of(alloc, &mut disk)?;
     let before = disk.reads();
     let mut rows = rows_of(alloc, &tables, None, b"", false)?;
-    assert_eq!(rt; disk.reads(), before);
-    assert!(rt; steps(&mut rows, &mut disk, &tables, 1));
-    assert_eq!(rt; disk.reads(), before.saturating_add(4));
-    assert!(rt; steps(&mut rows, &mut disk, &tables, KEYS));
-    assert_eq!(rt; rows.fill(&mut *disk, &tables), Ok(false));
+    check_same(&rt, &disk.reads(), &before);
+    check_that(&rt, steps(&mut rows, &mut disk, &tables, 1));
+    check_same(&rt, &disk.reads(), &before.saturating_add(4));
+    check_that(&rt, steps(&mut rows, &mut disk, &tables, KEYS));
+    check_same(&rt, &rows.fill(&mut *disk, &tables), &Ok(false));
     let mut blocks = 0u64;
     for table in tables.as_slice() {
         blocks = blocks.saturating_add(u64::from(table.blocks()));
     }
-    assert_eq!(rt; disk.reads(), before.saturating_add(blocks));
+    check_same(&rt, &disk.reads(), &before.saturating_add(blocks));
     Ok(())
 }

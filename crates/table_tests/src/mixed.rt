@@ -2,6 +2,7 @@
 ghost use Rattle.std.specs.Prelude.{◌≡◌};
 ghost use Rattle.merge_rows.specs.Steps.{AreWalksIn, stands};
 
+use crate::asserts::{check_same, check_that};
 use crate::made::{
     BASE, FIRST_PAGE, Made, Walk, add, key_of, new_disk, numbered, opened, room, row_at, row_on,
     value_of,
@@ -81,9 +82,9 @@ fn a_table_of_both_formats_is_asked(rt: HostRuntime) -> Result<(), Fail> {
     let table = mixed(alloc, &mut disk)?;
     let buf = room(alloc, &table)?;
     let mut made = Made { disk, table, buf };
-    assert!(rt; has_both_formats(&made.disk));
+    check_that(&rt, has_both_formats(&made.disk));
     for i in 0..ENTRIES {
-        assert!(rt; made.gives(&key_of(i), Some(value_of(i)), 1));
+        check_that(&rt, made.gives(&key_of(i), Some(value_of(i)), 1));
     }
     Ok(())
 }
@@ -107,7 +108,7 @@ fn a_table_of_both_formats_is_walked(rt: HostRuntime) -> Result<(), Fail> {
     let buf = room(alloc, &table)?;
     let mut walk = Walk::new(alloc, Made { disk, table, buf }, b"")?;
     for low in 0..ENTRIES {
-        assert!(rt; is_walked(alloc, &mut walk, low)?);
+        check_that(&rt, is_walked(alloc, &mut walk, low)?);
     }
     Ok(())
 }
@@ -200,14 +201,14 @@ fn a_table_of_both_formats_is_merged(rt: HostRuntime) -> Result<(), Fail> {
     let table = merged(alloc, &mut disk)?;
     let buf = room(alloc, &table)?;
     let mut made = Made { disk, table, buf };
-    assert_eq!(rt; made.size(), (2, 2));
+    check_same(&rt, &made.size(), &(2, 2));
     for block in [MERGED, MERGED + 4_096] {
-        assert_eq!(rt; made.disk.bytes().get(block + 5).copied(), Some(2));
+        check_same(&rt, &made.disk.bytes().get(block + 5).copied(), &Some(2));
     }
-    assert_eq!(rt; made.table.row().entries, 300);
+    check_same(&rt, &made.table.row().entries, &300);
     for i in 0..ENTRIES {
         let value = if i > 0 && i < 4 { NEW } else { value_of(i) };
-        assert!(rt; made.gives(&key_of(i), Some(value), 1));
+        check_that(&rt, made.gives(&key_of(i), Some(value), 1));
     }
     Ok(())
 }

@@ -1,4 +1,5 @@
 //! Blocks with shared prefixes: what is read of changed bytes, and what is found in them.
+use crate::asserts::{check_same, check_that};
 use crate::drawn_blocks::{drawn_keys, entries_of};
 use block_format::{Block, BlockBuilder};
 use byte_fields::fnv1a;
@@ -30,11 +31,11 @@ fn fault_of(bytes: &[u8]) -> Option<(usize, u8)> {
 fn a_block_of_one_entry(rt: HostRuntime) -> Result<(), Fail> {
     let mut list = Vec::new(rt.alloc());
     push_copy(&Entry::new(rt.alloc(), b"a", Some(b"b"))?, &mut list)?;
-    assert!(rt; are_entries(list.as_slice()));
+    check_that(&rt, are_entries(list.as_slice()));
     let bytes = block_bytes(rt.alloc(), list.as_slice())?;
-    assert_eq!(rt; bytes.as_slice(), a_b().as_slice());
-    assert_eq!(rt; fnv1a(bytes.as_slice()), 0x587B62AD428B4221);
-    assert_eq!(rt; fault_of(bytes.as_slice()), None);
+    check_same(&rt, &bytes.as_slice(), &a_b().as_slice());
+    check_same(&rt, &fnv1a(bytes.as_slice()), &0x587B62AD428B4221);
+    check_same(&rt, &fault_of(bytes.as_slice()), &None);
     Ok(())
 }
 
@@ -70,7 +71,7 @@ fn one_changed_byte(rt: HostRuntime) -> Result<(), Fail> {
     for (place, byte, at, rule) in rows {
         let mut page = a_b();
         put(&mut page, place, byte);
-        assert_eq!(rt; fault_of(&page), Some((at, rule)));
+        check_same(&rt, &fault_of(&page), &Some((at, rule)));
     }
     Ok(())
 }
@@ -90,7 +91,7 @@ fn two_changed_bytes(rt: HostRuntime) -> Result<(), Fail> {
         let mut page = a_b();
         page[place] = byte;
         page[other] = change;
-        assert_eq!(rt; fault_of(&page), Some((at, rule)));
+        check_same(&rt, &fault_of(&page), &Some((at, rule)));
     }
     Ok(())
 }
@@ -115,7 +116,7 @@ fn old_a_b_twice() -> [u8; 4096] {
 
 #[test]
 fn changed_bytes_of_an_old_block(rt: HostRuntime) -> Result<(), Fail> {
-    assert_eq!(rt; fault_of(&old_a_b()), None);
+    check_same(&rt, &fault_of(&old_a_b()), &None);
     let rows = [
         (0, 0x0F, 0, 1),
         (4, 0x00, 4, 2),
@@ -132,9 +133,9 @@ fn changed_bytes_of_an_old_block(rt: HostRuntime) -> Result<(), Fail> {
     for (place, byte, at, rule) in rows {
         let mut page = old_a_b();
         put(&mut page, place, byte);
-        assert_eq!(rt; fault_of(&page), Some((at, rule)));
+        check_same(&rt, &fault_of(&page), &Some((at, rule)));
     }
-    assert_eq!(rt; fault_of(&old_a_b_twice()), Some((17, 6)));
+    check_same(&rt, &fault_of(&old_a_b_twice()), &Some((17, 6)));
     Ok(())
 }
 
@@ -153,20 +154,20 @@ fn a_b_and_ab() -> [u8; 4096] {
 fn what_a_builder_of_prefixes_wrote_is_read(rt: HostRuntime) -> Result<(), Fail> {
     let mut builder = BlockBuilder::new(rt.alloc());
     let mut out = Vec::new(rt.alloc());
-    assert!(rt; builder.add(b"a", Some(b"b"))?);
+    check_that(&rt, builder.add(b"a", Some(b"b"))?);
     builder.close(&mut out)?;
-    assert_eq!(rt; out.as_slice(), a_b().as_slice());
-    assert!(rt; builder.add(b"a", Some(b"b"))?);
-    assert!(rt; builder.add(b"ab", None)?);
+    check_same(&rt, &out.as_slice(), &a_b().as_slice());
+    check_that(&rt, builder.add(b"a", Some(b"b"))?);
+    check_that(&rt, builder.add(b"ab", None)?);
     out.clear();
     builder.close(&mut out)?;
-    assert_eq!(rt; out.as_slice(), a_b_and_ab().as_slice());
+    check_same(&rt, &out.as_slice(), &a_b_and_ab().as_slice());
     let Ok(block) = Block::read(out.as_slice()) else {
         return Err(Fail::from("no block"));
     };
-    assert_eq!(rt; block.find(b"a"), Some(Some(b"b".as_slice())));
-    assert_eq!(rt; block.find(b"ab"), Some(None));
-    assert_eq!(rt; block.find(b"aa"), None);
+    check_same(&rt, &block.find(b"a"), &Some(Some(b"b".as_slice())));
+    check_same(&rt, &block.find(b"ab"), &Some(None));
+    check_same(&rt, &block.find(b"aa"), &None);
     Ok(())
 }
 
@@ -190,17 +191,17 @@ fn add_again(builder: &mut BlockBuilder, key: &[u8], value: Option<&[u8]>) -> Re
 fn each_allocation_of_a_builder_may_fail(rt: HostRuntime) -> Result<(), Fail> {
     let mut builder = BlockBuilder::new(rt.alloc());
     let mut out = Vec::new(rt.alloc());
-    assert!(rt; add_again(&mut builder, b"a", Some(b"b"))?);
-    assert!(rt; add_again(&mut builder, b"ab", None)?);
+    check_that(&rt, add_again(&mut builder, b"a", Some(b"b"))?);
+    check_that(&rt, add_again(&mut builder, b"ab", None)?);
     if builder.is_empty() {
         return Err(Fail::from("no entry"));
     }
     if builder.close(&mut out).is_err() {
-        assert!(rt; out.is_empty() && !builder.is_empty());
+        check_that(&rt, out.is_empty() && !builder.is_empty());
         builder.close(&mut out)?;
     }
-    assert!(rt; builder.is_empty());
-    assert_eq!(rt; out.as_slice(), a_b_and_ab().as_slice());
+    check_that(&rt, builder.is_empty());
+    check_same(&rt, &out.as_slice(), &a_b_and_ab().as_slice());
     Ok(())
 }
 
@@ -239,7 +240,7 @@ fn prefixed_blocks_that_are_full_to_the_byte(rt: HostRuntime) -> Result<(), Fail
                 count = count.saturating_add(1);
             }
         }
-        assert_eq!(rt; (count, builder.pages()), (taken, pages));
+        check_same(&rt, &(count, builder.pages()), &(taken, pages));
     }
     Ok(())
 }
@@ -251,16 +252,16 @@ fn the_largest_block(rt: HostRuntime) -> Result<(), Fail> {
     let mut out = Vec::new(alloc);
     let key = vec![in alloc; b'k'; 1_024]?;
     let value = vec![in alloc; b'v'; 1_048_576]?;
-    assert!(rt; add(&mut builder, &key, &value)?);
+    check_that(&rt, add(&mut builder, &key, &value)?);
     if !builder.is_empty() {
         builder.close(&mut out)?;
     }
-    assert!(rt; out.len() == 1_052_672);
+    check_that(&rt, out.len() == 1_052_672);
     let head = [
         0x13, 4, 0x10, 0, 1, 2, 0, 0, 0x0A, 0, 1, 0, 0, 0, 4, 0, 0, 0x10, 0,
     ];
-    assert!(rt; alike(out.as_slice(), &head) == 19);
-    assert_eq!(rt; fault_of(out.as_slice()), None);
+    check_that(&rt, alike(out.as_slice(), &head) == 19);
+    check_same(&rt, &fault_of(out.as_slice()), &None);
     Ok(())
 }
 
@@ -277,10 +278,10 @@ fn a_prefixed_block_takes_255_entries(rt: HostRuntime) -> Result<(), Fail> {
             builder.clear();
             first = second;
             second = 1;
-            assert!(rt; builder.add(&key, None)?);
+            check_that(&rt, builder.add(&key, None)?);
         }
     }
-    assert_eq!(rt; (first, second), (255, 45));
+    check_same(&rt, &(first, second), &(255, 45));
     Ok(())
 }
 
@@ -305,7 +306,7 @@ fn after_k000(shared: u8, rest: &[u8]) -> [u8; 4096] {
 fn an_entry_after_k000(rt: HostRuntime) -> Result<(), Fail> {
     let read: [(u8, &[u8]); 3] = [(3, b"1"), (4, b"1"), (0, b"l")];
     for (shared, rest) in read {
-        assert_eq!(rt; fault_of(&after_k000(shared, rest)), None);
+        check_same(&rt, &fault_of(&after_k000(shared, rest)), &None);
     }
     let refused: [(u8, &[u8], u8); 9] = [
         (2, b"01", 10),
@@ -319,7 +320,7 @@ fn an_entry_after_k000(rt: HostRuntime) -> Result<(), Fail> {
         (0, b"", 5),
     ];
     for (shared, rest, rule) in refused {
-        assert_eq!(rt; fault_of(&after_k000(shared, rest)), Some((23, rule)));
+        check_same(&rt, &fault_of(&after_k000(shared, rest)), &Some((23, rule)));
     }
     Ok(())
 }
@@ -337,15 +338,15 @@ fn tombstones(alloc: Global, count: u8) -> Result<Vec<Entry>, AllocError> {
 #[test]
 fn seventeen_entries(rt: HostRuntime) -> Result<(), Fail> {
     let list = tombstones(rt.alloc(), 17)?;
-    assert!(rt; are_entries(list.as_slice()));
-    assert_eq!(rt; block_length(list.as_slice()), 189);
+    check_that(&rt, are_entries(list.as_slice()));
+    check_same(&rt, &block_length(list.as_slice()), &189);
     let mut bytes = block_bytes(rt.alloc(), list.as_slice())?;
     assert!(rt; bytes.len() == 4096);
-    assert_eq!(rt; &bytes[8..12], [0x0C, 0, 0xB0, 0].as_slice());
-    assert_eq!(rt; fault_of(bytes.as_slice()), None);
+    check_same(&rt, &&bytes[8..12], &[0x0C, 0, 0xB0, 0].as_slice());
+    check_same(&rt, &fault_of(bytes.as_slice()), &None);
     bytes[177] = 3;
     bytes[179] = 1;
-    assert_eq!(rt; fault_of(bytes.as_slice()), Some((176, 10)));
+    check_same(&rt, &fault_of(bytes.as_slice()), &Some((176, 10)));
     Ok(())
 }
 
@@ -524,20 +525,22 @@ fn changed_bytes_of_drawn_blocks(rt: HostRuntime) -> Result<(), Fail> {
         let keys = drawn_keys(rt.alloc(), &mut numbers, count)?;
         let list = entries_of(rt.alloc(), &mut numbers, keys.as_slice())?;
         let list = list.as_slice();
-        assert!(rt; are_entries(list));
+        check_that(&rt, are_entries(list));
         let mut bytes = if round % 3 == 0 {
             old_block_bytes(rt.alloc(), list)?
         } else {
             block_bytes(rt.alloc(), list)?
         };
-        assert_eq!(rt;
-            fault_of(bytes.as_slice()),
-            plain_fault(rt.alloc(), bytes.as_slice())?
+        check_same(
+            &rt,
+            &fault_of(bytes.as_slice()),
+            &plain_fault(rt.alloc(), bytes.as_slice())?,
         );
         damage(&mut numbers, bytes.as_mut_slice());
-        assert_eq!(rt;
-            fault_of(bytes.as_slice()),
-            plain_fault(rt.alloc(), bytes.as_slice())?
+        check_same(
+            &rt,
+            &fault_of(bytes.as_slice()),
+            &plain_fault(rt.alloc(), bytes.as_slice())?,
         );
     }
     Ok(())

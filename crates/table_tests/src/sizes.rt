@@ -1,4 +1,5 @@
 //! Blocks of one page and of many, full to the byte.
+use crate::asserts::{check_same, check_that};
 use crate::made::{BASE, Made, add, numbered};
 use std::alloc::Global;
 use std::test::Fail;
@@ -8,7 +9,7 @@ use table_file::TableBuilder;
 fn a_block_takes_255_entries(rt: HostRuntime) -> Result<(), Fail> {
     for (entries, blocks) in [(255, 1), (256, 2), (510, 2), (511, 3)] {
         let made = Made::new(rt.alloc(), numbered(rt.alloc(), entries)?)?;
-        assert_eq!(rt; made.size(), (blocks, blocks));
+        check_same(&rt, &made.size(), &(blocks, blocks));
     }
     Ok(())
 }
@@ -56,8 +57,8 @@ fn blocks_that_are_full_to_the_byte(rt: HostRuntime) -> Result<(), Fail> {
     ];
     for (entries, blocks, pages) in rows {
         let mut made = Made::new(alloc, builder_of(alloc, entries)?)?;
-        assert_eq!(rt; made.size(), (blocks, pages));
-        assert!(rt; has_all(alloc, &mut made, entries)?);
+        check_same(&rt, &made.size(), &(blocks, pages));
+        check_that(&rt, has_all(alloc, &mut made, entries)?);
     }
     Ok(())
 }

@@ -1,4 +1,5 @@
 //! Tables that are built, written, opened, asked and walked.
+use crate::asserts::{check_same, check_that};
 use crate::made::{
     BASE, FIRST_PAGE, Made, Walk, add, boxed, key_of, new_disk, numbered, one_entry, opened,
     value_of, written,
@@ -13,17 +14,18 @@ use table_file::{Parts, Table, TableBuilder, fits_device, pages_of};
 #[test]
 fn a_table_of_one_entry(rt: HostRuntime) -> Result<(), Fail> {
     let (mut disk, row) = one_entry(rt.alloc())?;
-    assert_eq!(rt;
-        (row.data_pages, row.index_pages, row.filter_pages),
-        (1, 1, 1)
+    check_same(
+        &rt,
+        &(row.data_pages, row.index_pages, row.filter_pages),
+        &(1, 1, 1),
     );
-    assert_eq!(rt; (row.index_len, row.filter_len), (26, 22));
+    check_same(&rt, &(row.index_len, row.filter_len), &(26, 22));
     let mut begin = [0; 21];
     let block = [
         0x15, 0, 0, 0, 1, 2, 0, 0, 0x0A, 0, 1, 0, 0, 1, 0, 1, 0, 0, 0, 0x61, 0x62,
     ];
-    assert!(rt; disk.read(786_432, &mut begin).is_ok());
-    assert_eq!(rt; begin, block);
+    check_that(&rt, disk.read(786_432, &mut begin).is_ok());
+    check_same(&rt, &begin, &block);
     Ok(())
 }
 
@@ -33,11 +35,11 @@ fn an_absent_key_beside_a_changed_byte(rt: HostRuntime) -> Result<(), Fail> {
     let mut builder = TableBuilder::new(rt.alloc(), BASE);
     add(&mut builder, b"a", Some(b"b"))?;
     let mut made = Made::new(rt.alloc(), builder)?;
-    assert!(rt; made.gives(b"a", Some(Some(b"b")), 1));
-    assert!(rt; made.gives(b"z", None, 0));
-    assert!(rt; made.disk.write(786_456, &[1]).is_ok());
-    assert!(rt; made.gives(b"z", None, 0));
-    assert!(rt; !made.gives(b"a", Some(Some(b"b")), 1));
+    check_that(&rt, made.gives(b"a", Some(Some(b"b")), 1));
+    check_that(&rt, made.gives(b"z", None, 0));
+    check_that(&rt, made.disk.write(786_456, &[1]).is_ok());
+    check_that(&rt, made.gives(b"z", None, 0));
+    check_that(&rt, !made.gives(b"a", Some(Some(b"b")), 1));
     Ok(())
 }
 
@@ -45,7 +47,7 @@ fn an_absent_key_beside_a_changed_byte(rt: HostRuntime) -> Result<(), Fail> {
 fn each_key_of_four_thousand_by_one_read(rt: HostRuntime) -> Result<(), Fail> {
     let mut made = Made::new(rt.alloc(), numbered(rt.alloc(), 4_000)?)?;
     for i in 0..4_000 {
-        assert!(rt; made.gives(&key_of(i), Some(value_of(i)), 1));
+        check_that(&rt, made.gives(&key_of(i), Some(value_of(i)), 1));
     }
     Ok(())
 }
@@ -61,7 +63,7 @@ fn four_thousand_absent_keys(rt: HostRuntime) -> Result<(), Fail> {
         let longer = [high, low, 0];
         let other = [high, low | 1];
         let key: &[u8] = if is_longer { &longer } else { &other };
-        assert!(rt; made.gives(key, None, usize::from(is_longer)));
+        check_that(&rt, made.gives(key, None, usize::from(is_longer)));
     }
     Ok(())
 }
@@ -77,9 +79,9 @@ fn pages_of_four_thousand_entries(rt: HostRuntime) -> Result<(), Fail> {
 }
 
 fn check_pages(rt: &impl Abort, parts: &Parts<PlainFilter>, row: &Row, pages: u64) {
-    assert_eq!(rt; u64::from(row.data_pages), pages);
+    check_same(rt, &u64::from(row.data_pages), &pages);
     let others = u64::from(row.index_pages) + u64::from(row.filter_pages);
-    assert_eq!(rt; pages_of(parts), pages.saturating_add(others));
+    check_same(rt, &pages_of(parts), &pages.saturating_add(others));
 }
 
 // The table of the parts, with no call of the disk.
@@ -113,9 +115,9 @@ fn the_table_of_parts_is_the_one_that_is_opened(rt: HostRuntime) -> Result<(), F
     let Ok(read) = opened(rt.alloc(), &mut disk, &row)? else {
         return Err(Fail::from("not opened"));
     };
-    assert!(rt; is_same(&made, &read));
-    assert_eq!(rt; made.least(), key_of(0).as_slice());
-    assert_eq!(rt; made.greatest(), key_of(3_999).as_slice());
+    check_that(&rt, is_same(&made, &read));
+    check_same(&rt, &made.least(), &key_of(0).as_slice());
+    check_same(&rt, &made.greatest(), &key_of(3_999).as_slice());
     Ok(())
 }
 
@@ -126,10 +128,10 @@ fn a_walk_reads_each_block_once(rt: HostRuntime) -> Result<(), Fail> {
     let mut walk = Walk::new(rt.alloc(), made, &301u16.to_be_bytes())?;
     let before = walk.made.disk.calls();
     for i in 151..1_000 {
-        assert!(rt; walk.steps_to(Some((&key_of(i), value_of(i)))));
+        check_that(&rt, walk.steps_to(Some((&key_of(i), value_of(i)))));
     }
-    assert!(rt; walk.steps_to(None));
-    assert_eq!(rt; walk.made.table.blocks(), 4);
-    assert_eq!(rt; walk.made.disk.calls(), before.saturating_add(4));
+    check_that(&rt, walk.steps_to(None));
+    check_same(&rt, &walk.made.table.blocks(), &4);
+    check_same(&rt, &walk.made.disk.calls(), &before.saturating_add(4));
     Ok(())
 }
