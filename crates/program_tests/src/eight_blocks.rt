@@ -1,10 +1,10 @@
 //! Merge slices that read eight blocks and no more.
 use crate::asserts::check_same_at;
-use crate::faults::push_large;
 use crate::runs::{base_disk, check, commanded, disk_of, left_behind, served};
 use disk_mem::MemDisk;
 use std::alloc::Global;
 use std::test::Fail;
+use test_runs::push_large;
 
 // Four tables, of which each has a block for each of its keys: these digits behind a 6.
 fn four_tables(alloc: Global, tables: [&[u8]; 4]) -> Result<Box<MemDisk>, Fail> {

@@ -1,64 +1,10 @@
 //! A device of the manifest's first format, as the earlier program left it.
 use crate::asserts::{check_same_at, check_that, check_that_at};
-use crate::runs::{check, disk_of, failing, lost, served, written};
-use crate::torn::torn_disks;
+use crate::runs::{check, failing, lost, served, written};
 use disk_mem::MemDisk;
 use std::alloc::Global;
 use std::test::Fail;
-
-// The bytes that are not 0 of a device of 512 pages, with four hash bits, three real bits and the ratio 16, behind a put of
-// 616131 and of 616231 and a flush: what the program before the second format leaves, byte for byte.
-const FORMAT_1: [(usize, &[u8]); 9] = [
-    (
-        0,
-        b"\x01\x00\x00\x00\x00\x00\x00\x00SRFM\x01\x00\x00\x00\x01\x00\x00\x00\x00\x00\x00\x00\x00\x02\x00\x00\x04\x03\x10\x00@\x00\x00\x00@",
-    ),
-    (72, b"\x5e\x1c\xde\xe2\xdc\xb7\xed\x45"),
-    (
-        131_072,
-        b"\x01\x00\x00\x00\x00\x00\x00\x00SRFM\x01\x00\x01\x00\x02\x00\x00\x00\x00\x00\x00\x00\x00\x02\x00\x00\x04\x03\x10\x00\x80\x00\x00\x00@",
-    ),
-    (
-        131_148,
-        b"\xc0\x00\x00\x00\x01\x00\x00\x00\x01\x00\x00\x00\x01\x00\x00\x00\x02\x00\x00\x00\x1e\x00\x00\x00\x00\x00\x00\x00\x2f\x00\x00\x00\x00\x00\x00\x00\
-          \xc2\x15\xdd\xb7\xe4\x29\xf2\x06\xb4\x31\x3b\xe6\x43\xc6\xe4\x1e\x00\x00\x00\x00\x00\x00\x00\x00\x65\x4d\x2f\x22\x74\x60\xef\x0c",
-    ),
-    (
-        262_144,
-        b"\x01\x01\x03\x00\x01\x00\x00\x00aa1\x01\x01\x01\x03\x00\x01\x00\x00\x00ab1\x02",
-    ),
-    (
-        786_432,
-        b"\x1e\x00\x00\x00\x02\x00\x00\x00\x01\x03\x00\x01\x00\x00\x00aa1\x01\x01\x03\x00\x01\x00\x00\x00ab1\x02",
-    ),
-    (
-        790_528,
-        b"SRFI\x01\x00\x00\x00\x03\x00aa1\x01\x00\x00\x00\xb3\x18\xc4\x1d\x6b\x49\xc1\x59\x03\x00ab1",
-    ),
-    (794_624, b"SURF\x01\x04\x03\x00\x00\x00\x02\x00\x02"),
-    (
-        794_648,
-        b"\x02\x00\x00\x00\x00\x00\x00\x00\x03\x00\x00\x00\x00\x00\x00\x00aab\x01\x03\x92\x08",
-    ),
-];
-
-const BYTES: usize = 798_720;
-
-/// The device.
-pub fn format_1(alloc: Global) -> Result<Box<MemDisk>, Fail> {
-    let mut bytes = vec![in alloc; 0; BYTES]?;
-    for (place, part) in FORMAT_1.iter().copied() {
-        for (byte, own) in bytes.iter_mut().skip(place).zip(part) {
-            *byte = *own;
-        }
-    }
-    Ok(disk_of(alloc, &bytes)?)
-}
-
-/// Whether these bytes stand at a place.
-pub fn stands(disk: &MemDisk, place: usize, bytes: &[u8]) -> bool {
-    disk.bytes().get(place..).unwrap_or(b"").starts_with(bytes)
-}
+use test_runs::{format_1, stands, torn_disks};
 
 // Of the old table's filter four hash bits and three real bits are asked: with none it would admit 616139. The next version is in
 // slot A, and each of its two rows has these bits.

@@ -6,6 +6,7 @@ use filter_api::RangeFilter;
 use plain_filter::PlainFilter;
 use std::alloc::{AllocError, Global};
 use std::test::Fail;
+use test_runs::LAST_EPOCH_SUM;
 
 const EXAMPLES: [(&[u8], &[u8]); 16] = [
     (b"put 61 62\nget 61\nquit\n", b"ok\nval 62\nbye\n"),
@@ -58,9 +59,6 @@ const EXAMPLES: [(&[u8], &[u8]); 16] = [
     ),
     (b"quit\nget 61\n", b"bye\n"),
 ];
-
-/// The sum of the manifest's body with the epoch 2^64 - 1, least byte first.
-pub const LAST_EPOCH_SUM: [u8; 8] = [0x3d, 0xc3, 0x25, 0x2c, 0x11, 0xb4, 0xbf, 0x37];
 
 // The first example whose lines get other replies by this kind of filter.
 fn other_example<F: RangeFilter>(alloc: Global) -> Result<Option<usize>, Fail> {

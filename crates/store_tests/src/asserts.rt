@@ -17,13 +17,3 @@ pub(crate) fn check_that_at<D: Debug>(rt: &impl Abort, row: &D, holds: bool) {
 pub(crate) fn check_same<T: PartialEq + Debug>(rt: &impl Abort, left: &T, right: &T) {
     assert_eq!(rt; left, right);
 }
-
-/// The same in a loop: it shows at which row.
-pub(crate) fn check_same_at<T: PartialEq + Debug, D: Debug>(
-    rt: &impl Abort,
-    row: &D,
-    left: &T,
-    right: &T,
-) {
-    assert_eq!(rt; left, right, "at {row:?}");
-}

@@ -1,7 +1,7 @@
 //! Tests of the store over a disk in memory, and of scripts that the plain program plays, both with the plain filter.
 //!
 //! Nothing is exported. What the tests show at some values `store_core` and `plain_store` prove at all;
-//! here formats, changes, scans, faults, crashes and reopenings come together, and the lines of a script and their replies.
+//! here changes, scans, faults, crashes and reopenings come together, and the lines of a script and their replies.
 #![tactic(auto)]
 
 #[cfg(test)]
@@ -13,13 +13,7 @@ mod caching;
 #[cfg(test)]
 mod changes;
 #[cfg(test)]
-mod formats;
-#[cfg(test)]
 mod limits;
-#[cfg(test)]
-mod refused;
-#[cfg(test)]
-mod resetting;
 #[cfg(test)]
 mod scans;
 #[cfg(test)]

@@ -1,17 +1,16 @@
 //! Loads, and what the next run finds of them.
 use crate::asserts::{check_same, check_same_at, check_that, check_that_at};
-use crate::replies::LAST_EPOCH_SUM;
 use crate::runs::{
     Ended, base_disk, boxed, calls_of, check, commanded, disk_of, failing, formatted, left_behind,
     lost, opened, outside, ran, served, written,
 };
-use crate::slices::four_tables;
 use disk_mem::MemDisk;
 use disk_trait::Disk;
 use outside::MemOutside;
 use std::alloc::Global;
 use std::process::Abort;
 use std::test::Fail;
+use test_runs::{LAST_EPOCH_SUM, four_tables};
 
 const ONE_STEP: &[u8] = b"load steps 1 refused 0 live 1 sum 6c576fac43fd007c\n";
 

@@ -1,6 +1,5 @@
 //! Values that are too long for the log, in whole runs.
 use crate::asserts::{check_same_at, check_that, check_that_at};
-use crate::faults::{Left, left_by};
 use crate::runs::{
     Ended, base_disk, check, disk_of, failing, formatted, left_behind, lost, paced, served,
 };
@@ -11,6 +10,7 @@ use plain_store::{Reply, Request, State, ask};
 use std::alloc::{AllocError, Global};
 use std::test::Fail;
 use test_kit::Numbers;
+use test_runs::{Left, left_by};
 
 // The longest value, and one byte more than the log takes.
 const LONGEST: usize = 1_048_576;

@@ -4,12 +4,12 @@
 //! with that one refused. Where it is the test's own, the test ends with an error and no failed assertion.
 use crate::asserts::{check_that, check_that_at};
 use crate::faults::{GETS, SCRIPT};
-use crate::formats::stands;
 use crate::runs::{Ended, commanded, disk_of, served, stopped};
 use disk_mem::MemDisk;
 use std::alloc::{AllocError, Global};
 use std::test::Fail;
 use test_kit::is_not_the_last;
+use test_runs::stands;
 
 const MEMORY: &[u8] = b"memory\n";
 

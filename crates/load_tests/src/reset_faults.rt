@@ -4,11 +4,11 @@ use crate::resets::{TWO_PUTS, last_epoch};
 use crate::runs::{
     base_disk, calls_of, check, commanded, disk_of, failing, lost, served, stopped, written,
 };
-use crate::torn::torn_disks;
 use disk_mem::MemDisk;
 use std::alloc::Global;
 use std::process::Abort;
 use std::test::Fail;
+use test_runs::torn_disks;
 
 // New numbers: the words and their line; a growth that tells whether the store has the old pages or the new ones; and what the
 // lines and it are answered by the old numbers, and by the new ones.

@@ -1,10 +1,9 @@
 //! Writes that no sync followed, of which a crash leaves 07 in the place of each byte.
-use crate::asserts::{check_same, check_that, check_that_at};
-use crate::faults::{has_all, interrupted, is_told};
-use crate::runs::{Ended, Succinct, base_disk, boxed, lost};
+use crate::runs::lost;
 use disk_mem::{Choice, MemDisk};
 use std::alloc::{AllocError, Global};
 use std::test::Fail;
+use test_kit::boxed;
 
 // How many bytes the script's writes have: a gate; the record of a delete and that of a put, each with the gate after it; a body of
 // the manifest with no table, one and two; the blocks, the index or the filter of a table.
@@ -86,33 +85,4 @@ pub fn torn_disks(alloc: Global, disk: &MemDisk) -> Result<Vec<Box<MemDisk>>, Fa
         disks.push(crashed(alloc, disk, left)?)?;
     }
     Ok(disks)
-}
-
-// Whether what was said lasts on each of them.
-fn outlasts(alloc: Global, end: &Ended) -> Result<bool, Fail> {
-    for disk in torn_disks(alloc, &end.disk)? {
-        if !has_all::<Succinct>(alloc, disk, &end.said)? {
-            return Ok(false);
-        }
-    }
-    Ok(true)
-}
-
-// So the pages of a table are torn after their last used bytes too.
-#[test]
-fn calls_fail_and_each_write_is_left_as_sevens(rt: HostRuntime) -> Result<(), Fail> {
-    let alloc = rt.alloc();
-    let first = base_disk(alloc)?;
-    for call in 0..200 {
-        let end = interrupted::<Succinct>(alloc, &first, call)?;
-        check_that_at(&rt, &call, outlasts(alloc, &end)?);
-        if end.status == 0 {
-            check_same(&rt, &end.disk.starved(), &0);
-            check_that(&rt, call > 40);
-            return Ok(());
-        }
-        check_that_at(&rt, &call, is_told(&end));
-    }
-    check_that_at(&rt, &"it goes on", false);
-    Ok(())
 }

@@ -1,13 +1,12 @@
 //! Other settings for new tables, and more pages.
 use crate::asserts::{check_same, check_same_at, check_that, check_that_at};
-use crate::formats::{format_1, stands};
-use crate::replies::LAST_EPOCH_SUM;
 use crate::runs::{base_disk, check, commanded, disk_of, opened, served};
 use disk_mem::MemDisk;
 use disk_trait::Disk;
 use std::alloc::Global;
 use std::process::Abort;
 use std::test::Fail;
+use test_runs::{LAST_EPOCH_SUM, format_1, stands};
 
 const USAGE: &[u8] = b"usage: surfstore PATH format|serve|load|settings|grow\n";
 

@@ -2,15 +2,16 @@
 use crate::asserts::{check_same, check_same_at, check_that, check_that_at};
 use crate::runs::{
     Ended, Succinct, base_disk, calls_of, check, commanded, disk_of, failing, left_behind, lost,
-    opened, paced, served, served_by, written,
+    opened, paced, served, served_by,
 };
 use disk_mem::MemDisk;
 use disk_trait::Disk;
 use filter_api::RangeFilter;
 use plain_filter::PlainFilter;
-use std::alloc::{AllocError, Global};
+use std::alloc::Global;
 use std::test::Fail;
 use store_core::StoreError;
+use test_runs::{Left, left_by, push_large};
 
 /// Lines that put, delete, flush and compact, of which each changes the disk but the last two.
 pub const SCRIPT: &[u8] =
@@ -47,60 +48,6 @@ pub fn has_all<F: RangeFilter>(
     let found = again.said.as_slice();
     let done = oks(said).min(7);
     Ok(found == BEHIND[done] || found == BEHIND[done + 1])
-}
-
-// The first and the last place where two lists of bytes differ, the last one behind its byte.
-fn differing(whole: &[u8], lost: &[u8]) -> (usize, usize) {
-    let mut first = whole.len();
-    let mut last = 0;
-    for (place, byte) in whole.iter().enumerate() {
-        if lost.get(place).copied().unwrap_or(0) != *byte {
-            first = first.min(place);
-            last = place.saturating_add(1);
-        }
-    }
-    (first, last)
-}
-
-// Some bytes, of which those between two places are 07.
-fn with_sevens(
-    alloc: Global,
-    bytes: &[u8],
-    from: usize,
-    to: usize,
-) -> Result<Box<MemDisk>, AllocError> {
-    let mut bytes = Vec::from_slice(alloc, bytes)?;
-    for place in from..to {
-        if let Some(byte) = bytes.get_mut(place) {
-            *byte = 7;
-        }
-    }
-    disk_of(alloc, &bytes)
-}
-
-/// What a crash leaves of the writes that no sync followed.
-#[derive(Clone, Copy)]
-pub enum Left {
-    Whole,
-    Lost,
-    Half,
-    Sevens,
-}
-
-/// The disk as a crash leaves it. Half of a write is its first bytes, and 07 behind them.
-pub fn left_by(alloc: Global, disk: &MemDisk, left: Left) -> Result<Box<MemDisk>, AllocError> {
-    let lost = lost(alloc, disk)?;
-    let whole = written(alloc, disk)?;
-    let (first, last) = differing(whole.bytes(), lost.bytes());
-    match left {
-        Left::Whole => Ok(whole),
-        Left::Lost => Ok(lost),
-        Left::Half => {
-            let middle = first.saturating_add(last.saturating_sub(first) / 2);
-            with_sevens(alloc, whole.bytes(), middle, last)
-        }
-        Left::Sevens => with_sevens(alloc, whole.bytes(), first, last),
-    }
 }
 
 // Whether all of it is there after a run, stopped as a crash leaves it.
@@ -199,18 +146,6 @@ fn a_flush_that_is_stopped_leaves_no_table(rt: HostRuntime) -> Result<(), Fail> 
         check(&rt, &again, 0, found, call);
         check_same_at(&rt, &call, &again.disk.reads(), &5);
     }
-    Ok(())
-}
-
-/// The line of a put of one key, with a value of 3,000 bytes: no block holds two of them.
-pub fn push_large(lines: &mut Vec<u8>, key: &[u8]) -> Result<(), AllocError> {
-    lines.extend_from_slice(b"put ")?;
-    lines.extend_from_slice(key)?;
-    lines.push(b' ')?;
-    for _ in 0..3_000 {
-        lines.extend_from_slice(b"78")?;
-    }
-    lines.push(b'\n')?;
     Ok(())
 }
 
