@@ -1,4 +1,5 @@
 //! Ranks, selects and neighbours of bits of every length, by loops over single bits.
+use crate::asserts::{check_same, check_same_at, check_that_at};
 use crate::patterns::{Pattern, bits_of};
 use bit_rank::Ranked;
 use bit_select::Selected;
@@ -60,14 +61,15 @@ fn every_length_agrees_with_the_plain_loops(rt: HostRuntime) -> Result<(), Fail>
     for pattern in [Pattern::All, Pattern::None, Pattern::Random] {
         for len in 0..1101 {
             let plain = bits_of(alloc, pattern, len)?;
-            assert_eq!(rt; plain.len(), len);
-            assert!(rt;
+            check_same(&rt, &plain.len(), &len);
+            check_that_at(
+                &rt,
+                &len,
                 ranks_agree(alloc, &plain, bits_of(alloc, pattern, len)?)?,
-                "{pattern:?}, {len} bits"
             );
             let selected = Selected::new(alloc, bits_of(alloc, pattern, len)?)?;
-            assert!(rt; selects_agree(&plain, &selected), "{pattern:?}, {len} bits");
-            assert!(rt; bytes_agree(alloc, &plain)?, "{pattern:?}, {len} bits");
+            check_that_at(&rt, &len, selects_agree(&plain, &selected));
+            check_that_at(&rt, &len, bytes_agree(alloc, &plain)?);
         }
     }
     Ok(())
@@ -99,15 +101,17 @@ fn ones_beside_a_place_agree_with_the_plain_loops(rt: HostRuntime) -> Result<(),
     for pattern in [Pattern::All, Pattern::None, Pattern::Random] {
         let bits = bits_of(rt.alloc(), pattern, 200)?;
         for place in 0..260 {
-            assert_eq!(rt;
-                bits.first_one_from(place),
-                first_from(&bits, place),
-                "{place}"
+            check_same_at(
+                &rt,
+                &place,
+                &bits.first_one_from(place),
+                &first_from(&bits, place),
             );
-            assert_eq!(rt;
-                bits.last_one_before(place),
-                last_before(&bits, place),
-                "{place}"
+            check_same_at(
+                &rt,
+                &place,
+                &bits.last_one_before(place),
+                &last_before(&bits, place),
             );
         }
     }

@@ -57,7 +57,7 @@ fn leaves_stand_in_the_order_of_pushing(rt: HostRuntime) -> Result<(), Fail> {
         hash: 1,
         real: 2,
     })?;
-    check_that(&rt, leaves.len() == 1);
+    assert!(rt; leaves.len() == 1);
     check_that(&rt, leaves.get(0).ends);
     check_same(&rt, &leaves.get(0).stub.as_slice(), &b"b".as_slice());
     Ok(())

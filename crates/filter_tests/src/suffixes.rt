@@ -43,9 +43,9 @@ fn suffixes_of_33_bits_cross_the_words(rt: HostRuntime) -> Result<(), Fail> {
 #[test]
 fn bits_are_read_as_suffixes(rt: HostRuntime) -> Result<(), Fail> {
     let bits = Bits::from_bytes(rt.alloc(), &[0x35, 0x03], 10)?;
-    check_that(&rt, bits.len() == 10);
+    assert!(rt; bits.len() == 10);
     let suffixes = Suffixes::of(bits, 3, 2, 2);
-    check_that(&rt, suffixes.len() == 2 && suffixes.widths() == (3, 2));
+    assert!(rt; suffixes.len() == 2 && suffixes.widths() == (3, 2));
     check_same(&rt, &suffixes.get(0), &(5, 2));
     check_same(&rt, &suffixes.get(1), &(1, 3));
     Ok(())

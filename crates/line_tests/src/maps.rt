@@ -81,13 +81,13 @@ fn keys_stand_in_the_order_of_pushing(rt: HostRuntime) -> Result<(), Fail> {
     check_that(&rt, keys.is_empty());
     keys.push(b"far")?;
     keys.push(b"")?;
-    check_that(&rt, keys.len() == 2);
+    assert!(rt; keys.len() == 2);
     check_same(&rt, &keys.get(0), &b"far".as_slice());
     keys.push(b"fast")?;
     check_same(&rt, &keys.get(2), &b"fast".as_slice());
     keys.truncate(1);
     keys.push(b"toy")?;
-    check_that(&rt, keys.len() == 2);
+    assert!(rt; keys.len() == 2);
     check_same(&rt, &keys.get(1), &b"toy".as_slice());
     keys.truncate(0);
     check_that(&rt, keys.is_empty());
