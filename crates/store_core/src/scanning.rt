@@ -202,6 +202,7 @@ impl<F: RangeFilter> Store<F> {
             → IfOk result (λ scan. 1 ≤ opened_tables scan → MayRead s low.now (option_map (λ h. h.now) high.entry)) }
         ensures blocks { IfOk result (λ scan. blocks_to_come scan ≤ blocks_admitting low.now (option_map (λ h. h.now) high.entry) self.now.tables) }
         ensures made { IfOk result (λ scan. (scan.tables ≡ self.now.tables) × (scan.left ≡ None)) }
+        ensures begins { IfOk result (λ scan. (scan.high ≡ option_map (λ h. h.now) high.entry) × (scan.merge.walks ≡ walks_between low.now (option_map (λ h. h.now) high.entry) self.now.tables)) }
         ensures refused { MatchResult result (λ _. IsTried self.now.stopped (limit_of (Seek low.now (option_map (λ h. h.now) high.entry)))) (IsScanRefusal self.now.stopped (limit_of (Seek low.now (option_map (λ h. h.now) high.entry)))) }
     {
         self.scan(low, high, None)
