@@ -20,6 +20,8 @@ mod drawn_blocks;
 #[cfg(test)]
 mod faults;
 #[cfg(test)]
+mod long_beginnings;
+#[cfg(test)]
 mod made;
 #[cfg(test)]
 mod merges;
