@@ -270,7 +270,7 @@ impl<'s, F: RangeFilter> Scan<'s, F> {
     ghost use Rattle.std.specs.Borrow.{sem};
     ghost use Rattle.store_core.specs.Lends.{scan_ends};
 
-    /// The key and the value of the pair at hand, or `None` where none is. They lie where they were read.
+    /// The key and the value of the pair at hand, or `None` where none is.
     pub fn pair(&self) -> Option<(&[u8], &[u8])>
         ensures now { option_map (λ p. (p.0.now, p.1.now)) result ≡ self.now.now }
         ensures sound { IfSome result (λ p. IsEntry (entry_of p.0.now (Some p.1.now))) }
