@@ -1,0 +1,10 @@
+pub mod KeyOrders
+pub mod Clearing
+pub mod Ranges
+pub mod Sources
+pub mod Shown
+pub mod Sound
+pub mod Outputs
+pub mod MapEntries
+pub mod ChangedMaps
+pub mod Hiding

@@ -1,0 +1,19 @@
+use Rattle.range_model.proofs.Sources.{source_says}
+use Rattle.range_model.proofs.Sound.{source_is, changes_say}
+use Rattle.range_model.proofs.ChangedMaps.{map_says, source_keeps_map}
+use Rattle.range_model.proofs.laws.source_laws.Goals as goal
+
+pub returns-clause-says : goal.returns-clause-says
+returns-clause-says c = source_says
+
+pub returns-clause-sound : goal.returns-clause-sound
+returns-clause-sound c = source_is
+
+pub returns-clause-changes : goal.returns-clause-changes
+returns-clause-changes c = changes_say
+
+pub returns-clause-map : goal.returns-clause-map
+returns-clause-map c = map_says
+
+pub returns-clause-keeps : goal.returns-clause-keeps
+returns-clause-keeps c = source_keeps_map

@@ -1,0 +1,9 @@
+pub use Rattle.map_model.specs.SortedMap
+pub mod Clearing
+pub mod Ranges
+pub mod Sources
+pub mod Outputs
+pub mod ChangedMaps
+pub mod Hiding
+pub mod Laws
+pub mod Examples
