@@ -4,7 +4,11 @@ pub mod Ranges
 pub mod Sources
 pub mod Shown
 pub mod Sound
+pub mod RangeLaws
 pub mod Outputs
+pub mod SoundOutputs
+pub mod SameSource
+pub mod Reach
 pub mod MapEntries
 pub mod ChangedMaps
 pub mod Hiding

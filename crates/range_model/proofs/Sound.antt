@@ -15,43 +15,9 @@ use Rattle.range_model.proofs.KeyOrders.{at_or_after, before_then, is_before_of,
 use Rattle.map_model.proofs.Between.{before_less}
 use Rattle.entry_model.proofs.Newest.{lookup_with, none_above, rises_with}
 use Rattle.range_model.proofs.Ranges.{joined_is, joined_within, ranges_with}
+use Rattle.range_model.proofs.RangeLaws.{above_all, rise_with}
 use Rattle.range_model.proofs.Shown.{merge_rises, rises_without}
 use Rattle.range_model.proofs.Sources.{lookup_without, or_again, or_none}
-
--- ---- ranges rise
-
-lesser_above : (low x y : Bytes) → IsBefore low x → IsBefore low y → IsBefore low (lesser_key x y)
-lesser_above low x y one other = elim (is_before y x) as (λ t. IsBefore low (cond t y x)) [ true ↦ other | false ↦ one ]
-
-above_ranges : (low : Bytes) (ranges : List DeletedRange) (new : DeletedRange) → IsBefore low new.lo → AllByRecursion (LiesAbove low) ranges → AllByRecursion (LiesAbove low) (with_range ranges new)
-above_ranges low [] new less all = (less, tt)
-above_ranges low (range ∷ later) new less all =
-    elim (is_before range.hi new.lo) as (λ t. AllByRecursion (LiesAbove low) (cond t (range ∷ with_range later new) (cond (is_before new.hi range.lo) (new ∷ range ∷ later) (with_range later (joined_range range new))))) [
-      | true ↦ (all.0, above_ranges low later new less all.1)
-      | false ↦ elim (is_before new.hi range.lo) as (λ t. AllByRecursion (LiesAbove low) (cond t (new ∷ range ∷ later) (with_range later (joined_range range new)))) [
-        | true ↦ (less, all)
-        | false ↦ above_ranges low later (joined_range range new) (lesser_above low range.lo new.lo all.0 less) all.1
-      ]
-    ]
-
-above_less : (low high : Bytes) (ranges : List DeletedRange) → IsBefore low high → AllByRecursion (LiesAbove high) ranges → AllByRecursion (LiesAbove low) ranges
-above_less low high [] less all = tt
-above_less low high (range ∷ later) less all = (before_then low high range.lo less all.0, above_less low high later less all.1)
-
--- all that comes behind a range lies above its first key's bound
-above_all : (low : Bytes) (range : DeletedRange) (later : List DeletedRange) → IsBefore low range.lo → IsDeletedRange range → RangesRise (range ∷ later) → AllByRecursion (LiesAbove low) (range ∷ later)
-above_all low range later less is rise = (less, above_less low range.hi later (before_then low range.lo range.hi less is) rise.0)
-
-rise_with : (ranges : List DeletedRange) (new : DeletedRange) → AllByRecursion IsDeletedRange ranges → RangesRise ranges → RangesRise (with_range ranges new)
-rise_with [] new all rise = (tt, tt)
-rise_with (range ∷ later) new all rise =
-    elim (is_before range.hi new.lo) as (λ t. is_before range.hi new.lo ≡ t → RangesRise (cond t (range ∷ with_range later new) (cond (is_before new.hi range.lo) (new ∷ range ∷ later) (with_range later (joined_range range new))))) [
-      | true ↦ λ e. (above_ranges range.hi later new (before_less range.hi new.lo e) rise.0, rise_with later new all.1 rise.1)
-      | false ↦ λ _. elim (is_before new.hi range.lo) as (λ t. is_before new.hi range.lo ≡ t → RangesRise (cond t (new ∷ range ∷ later) (with_range later (joined_range range new)))) [
-        | true ↦ λ e. (above_all new.hi range later (before_less new.hi range.lo e) all.0 rise, rise)
-        | false ↦ λ _. rise_with later (joined_range range new) all.1 rise.1
-      ] refl
-    ] refl
 
 -- ---- the first key of each range is one of the entries
 

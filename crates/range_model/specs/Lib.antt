@@ -3,6 +3,7 @@ pub mod Clearing
 pub mod Ranges
 pub mod Sources
 pub mod Outputs
+pub mod Reach
 pub mod ChangedMaps
 pub mod Hiding
 pub mod Laws

@@ -16,4 +16,6 @@
 pub mod examples;
 mod laws;
 
-pub use laws::{clear_laws, hiding_laws, merged_laws, source_laws};
+pub use laws::{
+    clear_laws, hiding_laws, merged_laws, output_laws, range_laws, reach_laws, source_laws,
+};
