@@ -26,6 +26,7 @@ pub fn cleared_keys()
 #[tactic(auto)]
 pub fn deleted_and_put_again()
     ensures a_tombstone_and_a_range { source_of cleared_two ≡ record { entries = del_entry (0x61 ∷ []) ∷ []; ranges = range_of (0x61 ∷ []) (0x63 ∷ []) ∷ [] } }
+    ensures what_it_covers_is_gone { source_of (three_puts ++ cleared_two) ≡ record { entries = del_entry (0x61 ∷ []) ∷ put_entry (0x63 ∷ []) (3 ∷ []) ∷ []; ranges = range_of (0x61 ∷ []) (0x63 ∷ []) ∷ [] } }
     ensures get_61 { live (first_said three_sources (0x61 ∷ [])) ≡ None }
     ensures get_62 { first_said three_sources (0x62 ∷ []) ≡ Some (Some (4 ∷ [])) }
     ensures get_62_before { first_said (source_of cleared_two ∷ source_of three_puts ∷ []) (0x62 ∷ []) ≡ Some None }
