@@ -4,7 +4,7 @@ ghost use Rattle.map_model.specs.SortedMap.{put};
 ghost use Rattle.entry_model.specs.Entries.{put_entry, del_entry, live};
 ghost use Rattle.entry_model.specs.Newest.{newest_entries};
 ghost use Rattle.range_model.specs.Clearing.{clear};
-ghost use Rattle.range_model.specs.Ranges.{range_of, ranges_below, ranges_from};
+ghost use Rattle.range_model.specs.Ranges.{range_of, with_range, ranges_below, ranges_from};
 ghost use Rattle.range_model.specs.Sources.{source_of, says, first_said};
 ghost use Rattle.range_model.specs.Outputs.{with_ranges};
 ghost use Rattle.range_model.specs.ChangedMaps.{map_of_changes};
@@ -42,7 +42,9 @@ pub fn deleted_and_put_again()
 /// Ranges that touch and meet, with a put among them; ranges whose bounds are crossed.
 #[tactic(auto)]
 pub fn joined_ranges()
-    ensures touching_ranges_are_one { source_of touching ≡ touching_source }
+    ensures touching_ranges_are_one { with_range (range_of (0x61 ∷ []) (0x63 ∷ []) ∷ []) (range_of (0x63 ∷ []) (0x65 ∷ [])) ≡ range_of (0x61 ∷ []) (0x65 ∷ []) ∷ [] }
+    ensures others_have_room_between { with_range (range_of (0x61 ∷ []) (0x63 ∷ []) ∷ []) (range_of (0x63 ∷ 0 ∷ []) (0x65 ∷ [])) ≡ range_of (0x61 ∷ []) (0x63 ∷ []) ∷ range_of (0x63 ∷ 0 ∷ []) (0x65 ∷ []) ∷ [] }
+    ensures all_of_them { source_of touching ≡ touching_source }
     ensures a_covered_key_is_deleted { says touching_source (0x63 ∷ []) ≡ Some None }
     ensures its_end_is_not_covered { says touching_source (0x65 ∷ []) ≡ None }
     ensures its_own_entry_wins { says touching_source (0x64 ∷ []) ≡ Some (Some (1 ∷ [])) }
