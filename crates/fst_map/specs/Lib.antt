@@ -1,0 +1,4 @@
+pub mod Opened
+pub mod Slots
+pub mod Places
+pub mod Adding

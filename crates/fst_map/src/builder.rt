@@ -1,0 +1,111 @@
+//! A map that is built pair by pair.
+ghost use Rattle.std.specs.Prelude.{◌≡◌, ◌++◌, ◌∷◌, [], length, None, OnErr, OnOk};
+ghost use Rattle.fst_map.specs.Adding.{add_fault, fault_said, is_above};
+
+use crate::error::AddError;
+use key_base::{KeyList, MAX_KEY_BYTES, compare};
+use std::alloc::Global;
+use std::marker::Model;
+
+/// The bytes of the longest value that a builder takes.
+const MAX_VALUE_BYTES: usize = 65_536;
+
+/// The most pairs of a map.
+const MAX_PAIRS: usize = 1_000_000;
+
+/// The pairs of a map to be, in the order of their keys.
+#[derive(Drop)]
+pub struct FstBuilder {
+    keys: KeyList,
+    values: KeyList,
+}
+
+impl Model for FstBuilder {
+    ghost use Rattle.std.specs.Prelude.{zip};
+    ghost use Rattle.fst_map.specs.Adding.{IsAdded};
+    ghost use Rattle.map_model.specs.SortedMap.{Map};
+
+    ghost Value = { Map };
+
+    ghost view = { λ b. zip b.keys b.values };
+
+    ghost invariant = { λ b. IsAdded b.keys b.values };
+}
+
+impl FstBuilder {
+    /// Of no pair. Takes no memory.
+    pub fn new(alloc: Global) -> Self
+        ensures { result ≡ [] }
+    {
+        FstBuilder {
+            keys: KeyList::new(alloc),
+            values: KeyList::new(alloc),
+        }
+    }
+
+    /// Adds a pair behind all others. Where it fails the pairs stay as they were.
+    ///
+    /// It is refused, by the first of these that is so, where the key has no byte or more than 1,024, where the value has more
+    /// than 65,536, where the key is not above the last one, and where there are 1,000,000 pairs; then it may fail for want of
+    /// memory.
+    pub fn add(&mut self, key: &[u8], value: &[u8]) -> Result<(), AddError>
+        ensures added { OnOk result (self.new ≡ self.old ++ (key.now, value.now) ∷ []) }
+        ensures unchanged { OnErr result (self.new ≡ self.old) }
+        ensures refused { fault_said result ≡ add_fault self.old key.now value.now }
+    {
+        if let Some(error) = self.refusal(key, value) {
+            return Err(error);
+        }
+        self.push(key, value)
+    }
+
+    /// How many pairs there are.
+    pub fn len(&self) -> usize
+        ensures { result ≡ length self.now }
+    {
+        self.keys.len()
+    }
+
+    // Why the pair is refused, memory apart.
+    fn refusal(&self, key: &[u8], value: &[u8]) -> Option<AddError>
+        ensures { result ≡ add_fault self.now key.now value.now }
+    {
+        if key.is_empty() || key.len() > MAX_KEY_BYTES {
+            return Some(AddError::Key(key.len()));
+        }
+        if value.len() > MAX_VALUE_BYTES {
+            return Some(AddError::Value(value.len()));
+        }
+        if !self.is_above(key) {
+            return Some(AddError::Order);
+        }
+        if self.len() >= MAX_PAIRS {
+            return Some(AddError::Many);
+        }
+        None
+    }
+
+    // Whether a key is above the last one, if there is one.
+    fn is_above(&self, key: &[u8]) -> bool
+        ensures { result ≡ is_above self.now key.now }
+    {
+        let count = self.keys.len();
+        count == 0 || compare(self.keys.get(count - 1), key).is_lt()
+    }
+
+    // Adds a pair behind all others, if there is memory.
+    fn push(&mut self, key: &[u8], value: &[u8]) -> Result<(), AddError>
+        ensures added { OnOk result (self.new ≡ self.old ++ (key.now, value.now) ∷ []) }
+        ensures unchanged { OnErr result (self.new ≡ self.old) }
+        ensures refused { fault_said result ≡ None }
+    {
+        self.keys.push(key)?;
+        match self.values.push(value) {
+            Ok(()) => Ok(()),
+            Err(_) => {
+                self.keys.truncate(self.values.len());
+                Err(AddError::Memory)
+            }
+        }
+    }
+}

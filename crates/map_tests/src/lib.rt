@@ -1,0 +1,16 @@
+//! Tests of a static map, over bodies that are written out, and of what its builder refuses.
+//!
+//! Nothing is exported. What a reader answers is proved of all bytes; here bodies are written out, byte by byte, so that the
+//! format of the definitions is the one that a hand writes.
+#![tactic(auto)]
+
+#[cfg(test)]
+mod answers;
+#[cfg(test)]
+mod bodies;
+#[cfg(test)]
+mod builders;
+#[cfg(test)]
+mod cursors;
+#[cfg(test)]
+mod faults;
