@@ -1,0 +1,13 @@
+mod Causes
+mod Counted
+mod Filters
+mod Given
+mod Joined
+mod Judged
+mod Looked
+mod Ordered
+mod Parts
+mod Risen
+mod Rooms
+mod Seen
+mod Walked
