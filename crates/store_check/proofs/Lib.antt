@@ -1,7 +1,6 @@
 mod Causes
 mod Counted
 mod Filters
-mod Given
 mod Joined
 mod Judged
 mod Looked
@@ -10,4 +9,5 @@ mod Parts
 mod Risen
 mod Rooms
 mod Seen
+mod Started
 mod Walked

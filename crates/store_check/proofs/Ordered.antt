@@ -62,7 +62,7 @@ broken_more None false n = refl
 module _ (image : Image) (rows : List Row) (order : TableOrder) (row : Row) (range : Option KeyRange) (is : IsOrderOf image rows order) (range_is : range ≡ range_in image row (has_sound_index row image)) where
   one_more : (rows : List Row) → length rows + 1 ≡ length (rows ++ row ∷ [])
   one_more [] = refl
-  one_more (r ∷ rows) = ap suc (one_more rows)
+  one_more (r ∷ rows) = omega (arith, one_more rows)
 
   pub order_more : IsOrderOf image (rows ++ row ∷ []) (with_row range order)
   order_more = record {

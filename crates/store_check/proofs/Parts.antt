@@ -3,7 +3,8 @@ use Rattle.std.proofs.Common.{◌≡◌, ◌≤◌, ◌<◌, ◌+◌, ◌-◌, �
 use Rattle.std.proofs.lemmas.List.{append_assoc, drop_all, drop_more, take_all, take_more}
 use Rattle.std.proofs.lemmas.Option.{get_or_from_slice_get, slice_get_past, slice_get_within}
 use Rattle.std.proofs.lemmas.List.Elements.{All-from_recursion}
-use Rattle.std.specs.Prelude.{slice_get, Option, Some, None}
+use Rattle.std.specs.Prelude.{slice_get, Ok, Err, OnErr, OnOk, Option, Some, None}
+use Rattle.std.specs.declared.result.Result.{Result}
 use Rattle.std.specs.List.{All}
 use Rattle.std.specs.Option.{ForSome, option_and_then, option_map, option_or}
 use Rattle.byte_fields.specs.Faults.{Fault}
@@ -17,9 +18,9 @@ use Rattle.map_model.specs.SortedMap.{Bytes}
 use Rattle.block_model.specs.Places.{FitsDevice}
 use Rattle.table_file.specs.Faults.{filter_fault_of}
 use Rattle.table_file.specs.Opened.{RowIndex}
-use Rattle.image_model.specs.Findings.{Finding, LogFindings, RowsFindings, index_findings, neighbours_fault, ranges_findings}
-use Rattle.store_check.specs.Checks.{CheckOfVersion, IsLookedAt, PartsLeft, RowsDone, VersionLeft, parts_behind, rows_of}
-use Rattle.store_check.specs.Orders.{IsOrderOf, IsSoundAt, TableOrder, broken_fault, is_out_of_order, no_tables, range_of_index, when, with_row}
+use Rattle.image_model.specs.Findings.{Finding, RowsFindings, index_findings, neighbours_fault, ranges_findings}
+use Rattle.store_check.specs.Checks.{CheckOfVersion, IsLookedAt, PartsLeft, VersionLeft}
+use Rattle.store_check.specs.Orders.{IsOrderOf, IsSoundAt, TableOrder, is_out_of_order, no_tables, range_of_index, when, with_row}
 use Rattle.store_check.specs.Tables.{AreTableFindings, IsIndexRead}
 use Rattle.store_check.specs.declared.stage.Stage.{Stage}
 use Rattle.store_check.specs.declared.stage.Stage.TheVariants as stage
@@ -117,10 +118,6 @@ pub few_rows : (v : Option Manifest) (order : TableOrder) (row : Row) → row_of
 few_rows None order row here is = absurd cc
 few_rows (Some m) order row here is = omega (arith, slice_get_within m.version.rows order.rows row here, (is m refl).few)
 
-pub fewer_rows : (v : Option Manifest) (order : TableOrder) (row : Row) → row_of v order ≡ Some row → rows_of v - (order.rows + 1) < rows_of v - order.rows
-fewer_rows None order row here = absurd cc
-fewer_rows (Some m) order row here = omega (arith, slice_get_within m.version.rows order.rows row here)
-
 -- at the start
 pub sound_first : (m : Manifest) → IsVersion m.version → m.slot ≤ 1 → IsSoundAt m no_tables
 sound_first m is slot = record {
@@ -134,47 +131,24 @@ sound_first m is slot = record {
 
 -- ---- behind the last row
 
-behind_rows : (rows : List Row) (n : ℕ) → slice_get rows n ≡ None → length rows ≤ n
+behind_rows : (front : List Row) (n : ℕ) → slice_get front n ≡ None → length front ≤ n
 behind_rows [] n is = omega arith
-behind_rows (row ∷ rows) zero is = absurd cc
-behind_rows (row ∷ rows) (suc n) is = omega (arith, behind_rows rows n is)
+behind_rows (row ∷ later) zero is = absurd cc
+behind_rows (row ∷ later) (suc n) is = omega (arith, behind_rows later n is)
 
-module _ (spelling : Spelling) (first : Bytes → Fault) (image : Image) (order : TableOrder) where
-  pub rows_over : (v : Option Manifest) → row_of v order ≡ None → CheckOfVersion image order stage.Rows v → CheckOfVersion image order stage.Ranges v
-  rows_over None past is = absurd cc
-  rows_over (Some m) past is = record { rows_done = omega (arith, behind_rows m.version.rows order.rows past, is.rows_done); order_is = is.order_is }
-
-  pub rows_left_over : (v : Option Manifest) (later : List Finding) → row_of v order ≡ None → CheckOfVersion image order stage.Rows v
-      → VersionLeft spelling first image order stage.Ranges v later → VersionLeft spelling first image order stage.Rows v later
-  rows_left_over None later past is left = left
-  rows_left_over (Some m) later past is (of_log, log_is, later_is) =
-      let rows = m.version.rows in
-      let all = behind_rows rows order.rows past in
-      let broken = is.order_is.broken_is ∙ ap (λ (rs : List Row). neighbours_fault rs image) (take_all order.rows rows all) in (
-        [],
-        of_log,
-        subst (λ (rs : List Row). RowsFindings spelling (filter_fault_of first) image rs []) (sym (drop_all order.rows rows all)) refl,
-        log_is,
-        later_is ∙ ap (λ (o : Option Fault). ranges_findings (place_of m.slot) o ++ of_log) broken,
-      )
-
-  -- ---- the ranges, and the log
-
-  pub ranges_over : (v : Option Manifest) → CheckOfVersion image order stage.Ranges v → CheckOfVersion image order stage.Log v
-  ranges_over None is = absurd cc
-  ranges_over (Some m) is = record { rows_done = is.rows_done; order_is = is.order_is }
-
-  pub ranges_left : (m : Manifest) (behind later : List Finding) → LogFindings m.version image behind → later ≡ ranges_findings (place_of m.slot) (broken_fault order.broken) ++ behind
-      → PartsLeft spelling first image m order stage.Ranges later
-  ranges_left m behind later log_is later_is = (behind, log_is, later_is)
-
-  pub log_over : (v : Option Manifest) → CheckOfVersion image order stage.Log v → CheckOfVersion image order stage.End v
-  log_over None is = absurd cc
-  log_over (Some m) is = record { rows_done = is.rows_done; order_is = is.order_is }
-
-  pub none_left : (v : Option Manifest) → VersionLeft spelling first image order stage.End v []
-  none_left None = refl
-  none_left (Some m) = refl
+pub rows_left_over : (spelling : Spelling) (first : Bytes → Fault) (image : Image) (order : TableOrder) (v : Option Manifest) (later : List Finding) → row_of v order ≡ None → CheckOfVersion image order stage.Rows v
+    → VersionLeft spelling first image order stage.Ranges v later → VersionLeft spelling first image order stage.Rows v later
+rows_left_over spelling first image order None later past is left = left
+rows_left_over spelling first image order (Some m) later past is (of_log, log_is, later_is) =
+    let front = m.version.rows in
+    let all = behind_rows front order.rows past in
+    let broken = is.order_is.broken_is ∙ ap (λ (rs : List Row). neighbours_fault rs image) (take_all order.rows front all) in (
+      [],
+      of_log,
+      subst (λ (rs : List Row). RowsFindings spelling (filter_fault_of first) image rs []) (sym (drop_all order.rows front all)) refl,
+      log_is,
+      later_is ∙ ap (λ (o : Option Fault). ranges_findings (place_of m.slot) o ++ of_log) broken,
+    )
 
 -- the row that breaks the order is one of few
 pub few_broken : (m : Manifest) (order : TableOrder) → IsSoundAt m order → ForSome order.broken (λ (number : ℕ). number < 1024)
@@ -194,8 +168,8 @@ one_some n m same = cc
 pub sound_start : (n m : Manifest) → IsVersion n.version → n.slot ≤ 1 → Some n ≡ Some m → IsSoundAt m no_tables
 sound_start n m is slot same = subst (λ (k : Manifest). IsSoundAt k no_tables) (one_some n m same) (sound_first n is slot)
 
-pub fits_at : (rows : List Row) (i : ℕ) (row : Row) → row ≡ get_or rows i row → i < length rows → All FitsDevice rows → FitsDevice row
-fits_at rows i row is lt all = subst FitsDevice (sym is) (all i row lt)
+pub fits_at : (all : List Row) (i : ℕ) (row : Row) → row ≡ get_or all i row → i < length all → All FitsDevice all → FitsDevice row
+fits_at front i row is lt fits = subst FitsDevice (sym is) (fits i row lt)
 
 pub none_at : (v : Option Manifest) (m : Manifest) (order : TableOrder) → v ≡ Some m → length m.version.rows ≤ order.rows → None ≡ row_of v order
 none_at v m order is past = sym (ap (λ (w : Option Manifest). row_of w order) is ∙ slice_get_past m.version.rows order.rows past)
@@ -205,6 +179,8 @@ drop_none n [] none = omega arith
 drop_none zero (x ∷ xs) none = absurd cc
 drop_none (suc n) (x ∷ xs) none = omega (arith, drop_none n xs none)
 
-pub none_of_not : (o : Option Row) → ((row : Row) → o ≡ Some row → ⊥) → o ≡ None
-none_of_not None none = refl
-none_of_not (Some row) none = absurd (none row refl)
+-- one row more was added, or without memory none
+pub sound_either : {T E : Type 0} (r : Result T E) (v : Option Manifest) (order new : TableOrder) (row : Row) (index : Option RowIndex) → row_of v order ≡ Some row → ForSome v (λ (m : Manifest). IsSoundAt m order)
+    → OnOk r (new ≡ with_row (option_map range_of_index index) order) → OnErr r (new ≡ order) → ForSome v (λ (m : Manifest). IsSoundAt m new)
+sound_either (Ok x) v order new row index here is added same m one = subst (IsSoundAt m) (sym added) (sound_more v order row index here is m one)
+sound_either (Err e) v order new row index here is added same m one = subst (IsSoundAt m) (sym same) (is m one)

@@ -1,6 +1,8 @@
 use Rattle.std.proofs.Common.{◌≡◌, ◌≤◌, ◌*◌, ◌+◌, ◌++◌, ◌∷◌, [], ℕ, List, refl, sym, ap, ◌∙◌, subst, arith}
 use Rattle.byte_fields.specs.declared.parts.Part.TheVariants as part
 use Rattle.image_model.specs.Findings.{BrokenRule, Finding, LogFindings, broken, finding, spelled}
+use Rattle.gate_log.specs.Faults.{IsShapeIn}
+use Rattle.log_model.specs.Area.{LogBreaks}
 use Rattle.manifest.specs.Manifest.{Manifest}
 use Rattle.manifest_model.specs.Version.{log_page_of}
 use Rattle.store_check.specs.Checks.{waiting}
@@ -37,7 +39,8 @@ returns-clause-same g c spelling first later tells =
               ap (λ (c : Check). waiting c) w.self-is ∙ w.in_ok-add-in-Err-Shape.ensures.added
               ∙ ap (λ (fs : List Finding). fs ++ w.broken_log.result ∷ []) c.clear.ensures.items
               ∙ ap (λ (f : Finding). f ∷ []) w.broken_log.ensures in
-          let found = subst (LogFindings m.version held) (sym said) (broken area w.in-Err-Shape.at w.in-Err-Shape.rule page (w.in-Err-Shape.ensures.shape tells)) in
+          let breaks : LogBreaks area w.in-Err-Shape.at w.in-Err-Shape.rule held = subst (IsShapeIn area held) w.in-Err-Shape.field-0-is (w.in-Err-Shape.ensures.shape tells) in
+          let found = subst (LogFindings m.version held) (sym said) (broken area w.in-Err-Shape.at w.in-Err-Shape.rule page breaks) in
           at_ok c.match-replay.result _
           (log_was_left old new (ap (λ (c : Check). c.version) w.self-is) (ap (λ (c : Check). c.order) w.self-is) c.requires.stage (ap (λ (c : Check). c.stage) w.self-is) spelling first held m later c.in-Some.is c.requires.none found)
     ]

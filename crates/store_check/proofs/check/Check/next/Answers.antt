@@ -9,7 +9,7 @@ use Rattle.store_check.proofs.check.Check.next.Goals as goal
 pub parts-preserved : goal.parts-preserved
 parts-preserved g c =
     let f = g.F.RangeFilter in
-    let l = c.loop-parts in
+    let l = c.parts in
     let new = c.look.new.self in
     let looked = c.in_ok-look.ensures in
     let first = (g.D.Disk.world c.args.disk.now).seen.held in
@@ -27,5 +27,5 @@ parts-preserved g c =
 
 pub returns-in_err-look-clause-moves : goal.returns-in_err-look-clause-moves
 returns-in_err-look-clause-moves g c =
-    let l = c.loop-parts in
+    let l = c.parts in
     only_then (g.D.Disk.world c.args.disk.now) (g.D.Disk.world l.disk) (g.D.Disk.world c.look.new.disk) l.invariant.moves c.look.ensures.moves

@@ -1,7 +1,7 @@
 use Rattle.std.proofs.Common.{◌≡◌, ◌∙◌, rules}
 use Rattle.std.specs.Prelude.{Some}
 use Rattle.manifest_model.specs.Slots.{slots_damage}
-use Rattle.store_check.proofs.Given.{damaged_left, fresh_left}
+use Rattle.store_check.proofs.Started.{damaged_left, fresh_left}
 use Rattle.store_check.proofs.Parts.{sound_start}
 use Rattle.store_check.proofs.check.Check.start.Goals as goal
 
