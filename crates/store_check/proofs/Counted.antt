@@ -3,8 +3,8 @@ use Rattle.std.proofs.Common.{◌≡◌, ◌≤◌, ◌+◌, ℕ, zero, suc, Boo
 use Rattle.std.proofs.lemmas.Bool.{and_from}
 use Rattle.std.proofs.lemmas.List.{append_assoc, length-map}
 use Rattle.std.specs.Option.{option_or}
-use Rattle.std.specs.Prelude.{◌==◌, ◌&&◌, ◌||◌, nat_lt, not, is_none, Option, Some, None}
-use Rattle.byte_fields.specs.Faults.{Fault, refuse}
+use Rattle.std.specs.Prelude.{◌==◌, ◌||◌, nat_lt, not, is_none, Option, Some, None}
+use Rattle.byte_fields.specs.Faults.{refuse}
 use Rattle.byte_fields.specs.declared.parts.Damage.{Damage}
 use Rattle.byte_fields.specs.declared.parts.Part.TheVariants as part
 use Rattle.byte_fields.specs.declared.parts.Row.{Row}

@@ -1,19 +1,16 @@
 -- What was read of one part is there when the next one is read.
-use Rattle.std.proofs.Common.{◌≡◌, List, [], ◌∷◌, ◌++◌, refl, sym, ap, ◌∙◌, subst}
-use Rattle.std.proofs.lemmas.List.{nil_from_length}
-use Rattle.std.specs.Prelude.{MatchOption, Option, Some, None}
+use Rattle.std.proofs.Common.{◌≡◌, List, [], ◌∷◌, ◌++◌, sym, ap, ◌∙◌, subst}
+use Rattle.std.specs.Prelude.{Option, Some}
 use Rattle.byte_fields.specs.Faults.{Fault}
 use Rattle.byte_fields.specs.declared.parts.Damage.{Damage}
 use Rattle.byte_fields.specs.declared.parts.Row.{Row}
 use Rattle.disk_trait.specs.Image.{Image}
 use Rattle.filter_api.specs.Spellings.{Spelling}
-use Rattle.filter_model.specs.Leaves.{Filter}
 use Rattle.map_model.specs.SortedMap.{Bytes}
 use Rattle.table_file.specs.Opened.{IsReadIndex, RowIndex}
 use Rattle.image_model.specs.Findings.{Finding, count_findings, findings_of_blocks, found_by, index_findings, known_keys}
-use Rattle.store_check.specs.Lists.{IsBegun}
 use Rattle.store_check.specs.Tables.{AddsOfFilter}
-use Rattle.store_check.proofs.Counted.{index_is_damaged, index_is_sound}
+use Rattle.store_check.proofs.Counted.{index_is_sound}
 
 pub read_there : (row : Row) (image after : Image) (x : RowIndex) → x.row ≡ row → after ≡ image → IsReadIndex row image x → IsReadIndex x.row after x
 read_there row image after x row_is same is = subst (λ (h : Image). IsReadIndex x.row h x) (sym same) (subst (λ (r : Row). IsReadIndex r image x) (sym row_is) is)

@@ -1,7 +1,7 @@
 -- What is found of the bytes of a block.
-use Rattle.std.proofs.Common.{◌≡◌, ◌≢◌, ◌+◌, ℕ, Bool, true, false, cond, List, [], ◌∷◌, ◌++◌, length, refl, sym, ap, ◌∙◌}
+use Rattle.std.proofs.Common.{◌≡◌, ◌≢◌, ◌+◌, ℕ, Bool, true, false, cond, List, [], ◌∷◌, ◌++◌, refl, sym, ap, ◌∙◌}
 use Rattle.std.proofs.lemmas.Bool.{eq-eqb}
-use Rattle.std.specs.Prelude.{◌==◌, ◌&&◌, bytes_eq, is_none, Option, Some, None}
+use Rattle.std.specs.Prelude.{◌&&◌, bytes_eq, is_none, Option, Some, None}
 use Rattle.std.specs.Option.{option_map}
 use Rattle.byte_fields.specs.Faults.{Fault}
 use Rattle.byte_fields.specs.Sums.{fnv_of}
@@ -19,7 +19,7 @@ use Rattle.table_model.specs.Damage.{block_part}
 use Rattle.table_model.proofs.Sound.{block_rules}
 use Rattle.table_file.specs.Opened.{RowIndex}
 use Rattle.table_file.specs.Search.{row_at}
-use Rattle.image_model.specs.Findings.{Before, Behind, Finding, Unknown, WrongKeys, block_at, finding, findings_at, found_by, has_its_keys, known_behind, may_follow, unless}
+use Rattle.image_model.specs.Findings.{Behind, Finding, Unknown, WrongKeys, block_at, finding, findings_at, found_by, has_its_keys, known_behind, may_follow, unless}
 use Rattle.store_check.specs.Befores.{before_of}
 use Rattle.store_check.specs.Blocks.{IsJudged}
 use Rattle.store_check.specs.Lists.{listed}

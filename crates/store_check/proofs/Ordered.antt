@@ -8,7 +8,6 @@ use Rattle.byte_fields.specs.declared.parts.Row.{Row}
 use Rattle.disk_trait.specs.Image.{Image}
 use Rattle.block_model.specs.Index.{Index, IndexRow}
 use Rattle.manifest_model.specs.Tables.{KeyRange, follows}
-use Rattle.table_model.specs.Damage.{index_damage}
 use Rattle.table_file.specs.Opened.{RowIndex}
 use Rattle.table_file.specs.Search.{row_at}
 use Rattle.image_model.specs.Findings.{fault_after, has_sound_index, neighbours_fault}

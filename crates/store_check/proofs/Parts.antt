@@ -1,5 +1,5 @@
 -- Part after part: what is left of a check, before and after one is looked at.
-use Rattle.std.proofs.Common.{◌≡◌, ◌≤◌, ◌<◌, ◌+◌, ◌-◌, ◌*◌, ◌^◌, ◌⊎◌, inl, inr, ℕ, zero, suc, Bool, true, false, List, [], ◌∷◌, ◌++◌, length, take, drop, get_or, refl, sym, ap, ◌∙◌, subst, arith}
+use Rattle.std.proofs.Common.{◌≡◌, ◌≤◌, ◌<◌, ◌+◌, ◌*◌, ◌^◌, inl, inr, ℕ, zero, suc, Bool, true, false, List, [], ◌∷◌, ◌++◌, length, take, drop, get_or, refl, sym, ap, ◌∙◌, subst, arith}
 use Rattle.std.proofs.lemmas.List.{append_assoc, drop_all, drop_more, take_all, take_more}
 use Rattle.std.proofs.lemmas.Option.{get_or_from_slice_get, slice_get_past, slice_get_within}
 use Rattle.std.proofs.lemmas.List.Elements.{All-from_recursion}
@@ -123,7 +123,7 @@ pub sound_first : (m : Manifest) → IsVersion m.version → m.slot ≤ 1 → Is
 sound_first m is slot = record {
   few = is.few_tables;
   slot = slot;
-  log_page = elim is.log_page [ | inl a ↦ omega (arith, a) | inr b ↦ omega (arith, b) ];
+  log_page = elim is.log_page [ inl a ↦ omega (arith, a) | inr b ↦ omega (arith, b) ];
   fits = All-from_recursion FitsDevice m.version.rows (tables_fit m.version is);
   rows = omega arith;
   broken = λ number none. absurd cc;

@@ -1,5 +1,5 @@
 -- Block after block: what was found, and what is still to be found.
-use Rattle.std.proofs.Common.{◌≡◌, ◌≤◌, ◌<◌, ◌+◌, ℕ, zero, suc, Bool, true, false, List, [], ◌∷◌, ◌++◌, length, take, drop, refl, sym, ap, ap₂, ◌∙◌, arith}
+use Rattle.std.proofs.Common.{◌≡◌, ◌≤◌, ◌<◌, ◌+◌, ℕ, zero, suc, Bool, true, false, List, [], ◌∷◌, ◌++◌, length, take, drop, refl, sym, ap, ◌∙◌, arith}
 use Rattle.std.proofs.lemmas.Bool.{and_parts}
 use Rattle.std.proofs.lemmas.List.{append-nil, append_assoc, drop_all, drop_more, map-append}
 use Rattle.std.specs.Prelude.{◌&&◌, is_none, Option, Some, None}
@@ -11,7 +11,7 @@ use Rattle.block_model.specs.Index.{IndexRow, row_pages}
 use Rattle.block_model.specs.Laws.{joined}
 use Rattle.table_file.specs.Opened.{RowIndex}
 use Rattle.table_file.specs.Search.{row_at}
-use Rattle.image_model.specs.Findings.{AtLeast, Before, Finding, are_sound_blocks, block_at, block_findings, blocks_at, findings_at, known_behind}
+use Rattle.image_model.specs.Findings.{AtLeast, Finding, are_sound_blocks, block_at, block_findings, blocks_at}
 use Rattle.store_check.specs.Befores.{before_of}
 use Rattle.store_check.specs.Blocks.{IsJudged}
 use Rattle.store_check.specs.Lists.{IsBegun, listed}

@@ -1,7 +1,7 @@
 -- What a check finds in all is what is left of it at the start.
-use Rattle.std.proofs.Common.{◌≡◌, ◌≤◌, ◌<◌, ◌+◌, ◌-◌, ◌*◌, ◌^◌, ℕ, suc, List, [], ◌∷◌, ◌++◌, length, refl, sym, ap, ◌∙◌, subst, arith}
+use Rattle.std.proofs.Common.{◌≡◌, List, [], ◌++◌, sym, ap, ◌∙◌, subst}
 use Rattle.std.proofs.lemmas.List.{append-nil}
-use Rattle.std.specs.Prelude.{IfSome, MatchOption, Option, Some, None}
+use Rattle.std.specs.Prelude.{Option, Some, None}
 use Rattle.byte_fields.specs.Faults.{Fault}
 use Rattle.byte_fields.specs.declared.parts.Damage.{Damage}
 use Rattle.disk_trait.specs.Image.{Image}
@@ -13,10 +13,9 @@ use Rattle.manifest_model.specs.Slots.{slots_damage}
 use Rattle.map_model.specs.SortedMap.{Bytes}
 use Rattle.table_file.specs.Faults.{filter_fault_of}
 use Rattle.image_model.specs.Findings.{AreFindings, Finding, found_by, of_slots, of_version}
-use Rattle.store_check.specs.Checks.{AreLeft, CheckOfVersion, IsCheckOf, VersionLeft, parts_behind, parts_left, rows_of, steps_left, waiting}
-use Rattle.store_check.specs.Orders.{TableOrder, no_tables}
+use Rattle.store_check.specs.Checks.{AreLeft, VersionLeft, waiting}
+use Rattle.store_check.specs.Orders.{no_tables}
 use Rattle.store_check.specs.declared.check.Check.{Check}
-use Rattle.store_check.specs.declared.stage.Stage.{Stage}
 use Rattle.store_check.specs.declared.stage.Stage.TheVariants as stage
 use Rattle.store_check.proofs.Parts.{moved}
 

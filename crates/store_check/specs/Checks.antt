@@ -1,5 +1,5 @@
 -- A check of a whole store: where it is, and what it has still to find.
-use Rattle.std.specs.Prelude.{◌≡◌, ◌≤◌, ◌+◌, ◌-◌, ◌*◌, ◌^◌, ◌++◌, ℕ, List, [], ◌∷◌, length, take, drop, slice_get, Option, Some, None}
+use Rattle.std.specs.Prelude.{◌≡◌, ◌≤◌, ◌+◌, ◌-◌, ◌*◌, ◌^◌, ◌++◌, ℕ, List, [], length, take, drop, slice_get, Option, Some, None}
 use Rattle.std.specs.Option.{option_and_then}
 use Rattle.byte_fields.specs.Faults.{Fault}
 use Rattle.byte_fields.specs.declared.parts.Row.{Row}

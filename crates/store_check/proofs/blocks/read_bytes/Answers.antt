@@ -1,4 +1,4 @@
-use Rattle.std.proofs.Common.{◌+◌, ◌*◌, ◌++◌, length, drop, arith}
+use Rattle.std.proofs.Common.{◌++◌, length, drop, arith}
 use Rattle.store_check.proofs.Rooms.{block_inside, few_taken}
 use Rattle.store_check.proofs.blocks.read_bytes.Goals as goal
 

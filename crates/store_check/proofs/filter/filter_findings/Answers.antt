@@ -1,6 +1,5 @@
-use Rattle.std.proofs.Common.{◌≡◌, subst}
+use Rattle.std.proofs.Common.{subst}
 use Rattle.table_file.specs.Faults.{IsFilterAnswer}
-use Rattle.table_file.specs.declared.fault.TableFault.{TableFault}
 use Rattle.store_check.proofs.Filters.{of_damage, of_sound}
 use Rattle.store_check.proofs.filter.filter_findings.Goals as goal
 

@@ -1,4 +1,4 @@
-use Rattle.std.proofs.Common.{◌≡◌, length, sym, ◌∙◌, arith}
+use Rattle.std.proofs.Common.{length, sym, ◌∙◌, arith}
 use Rattle.block_model.proofs.LastBlocks.{positive}
 use Rattle.store_check.proofs.Risen.{key_list}
 use Rattle.store_check.proofs.keys.known.Goals as goal

@@ -1,7 +1,6 @@
-use Rattle.std.proofs.Common.{◌≡◌, ◌≤◌, ◌<◌, ◌+◌, ◌++◌, ◌∷◌, [], List, length, refl, sym, ap, ◌∙◌, subst, arith}
+use Rattle.std.proofs.Common.{◌<◌, length, refl, sym, ap, ◌∙◌, arith}
 use Rattle.disk_trait.specs.Image.{Image}
 use Rattle.image_model.specs.Findings.{AtLeast, block_findings}
-use Rattle.map_model.specs.SortedMap.{Bytes}
 use Rattle.store_check.specs.Befores.{before_of}
 use Rattle.store_check.specs.Places.{part_of}
 use Rattle.store_check.proofs.Causes.{at_err, cause_given, later_cause, no_reads, one_more}

@@ -1,9 +1,6 @@
-use Rattle.std.proofs.Common.{◌≡◌, ◌+◌, ◌++◌, ◌∷◌, [], List, refl, sym, ap, ◌∙◌, subst}
-use Rattle.block_model.specs.Places.{byte_of_page, index_page}
-use Rattle.disk_trait.specs.Image.{Image}
+use Rattle.std.proofs.Common.{List, sym, ◌∙◌, subst}
 use Rattle.image_model.specs.Findings.{Finding, index_findings}
 use Rattle.table_file.specs.Faults.{IsIndexAnswer}
-use Rattle.table_file.specs.declared.fault.TableFault.{TableFault}
 use Rattle.store_check.specs.Lists.{IsBegun}
 use Rattle.store_check.proofs.Causes.{at_err, cause_given, later_cause, then_more}
 use Rattle.store_check.proofs.Counted.{begun_none, index_is_damaged}

@@ -1,10 +1,9 @@
-use Rattle.std.proofs.Common.{inl, inr, arith, ◌≡◌, ◌≤◌, ◌++◌, ◌∷◌, [], ℕ, List, Bool, true, false, length, refl, sym, ap, ap₂, ◌∙◌, subst}
+use Rattle.std.proofs.Common.{inl, inr, arith, ◌++◌, List, length, sym, ap, ap₂, ◌∙◌, subst}
 use Rattle.std.proofs.lemmas.Bool.{cases_Bool, eqb-true, eqb-false}
 use Rattle.std.proofs.lemmas.List.{nil_from_length}
-use Rattle.std.specs.Prelude.{Option, Some, None}
 use Rattle.byte_fields.specs.declared.parts.Row.{Row}
-use Rattle.image_model.specs.Findings.{AtLeast, Finding, block_findings, count_findings, findings_of_blocks, known_keys}
-use Rattle.store_check.specs.Lists.{IsBegun, listed}
+use Rattle.image_model.specs.Findings.{Finding, count_findings, findings_of_blocks}
+use Rattle.store_check.specs.Lists.{IsBegun}
 use Rattle.store_check.specs.Tables.{counted_findings}
 use Rattle.store_check.proofs.Causes.{at_err}
 use Rattle.store_check.proofs.Counted.{begun_more, begun_whole, blocks_are, count_is, keys_known, keys_unknown, some_blocks}

@@ -1,5 +1,4 @@
-use Rattle.std.proofs.Common.{◌≡◌, refl, sym, ap, ◌∙◌, subst}
-use Rattle.disk_trait.specs.Image.{Image}
+use Rattle.std.proofs.Common.{◌∙◌}
 use Rattle.image_model.specs.Findings.{index_findings, known_keys}
 use Rattle.store_check.proofs.Causes.{at_err, cause_given, later_cause, one_more}
 use Rattle.store_check.proofs.Counted.{begun_whole}

@@ -1,4 +1,4 @@
-use Rattle.std.proofs.Common.{◌≡◌, refl, sym}
+use Rattle.std.proofs.Common.{refl, sym}
 use Rattle.std.specs.Prelude.{Some}
 use Rattle.store_check.proofs.Judged.{judged_damaged}
 use Rattle.store_check.proofs.blocks.BlocksSeen.judge.Goals as goal

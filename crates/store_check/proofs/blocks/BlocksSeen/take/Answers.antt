@@ -1,14 +1,12 @@
-use Rattle.std.proofs.Common.{◌≡◌, ◌≤◌, ◌<◌, ◌*◌, ◌+◌, ◌++◌, ◌∷◌, [], ℕ, List, true, false, length, refl, sym, ap, ◌∙◌, arith}
+use Rattle.std.proofs.Common.{◌≡◌, ◌*◌, ◌++◌, ℕ, List, length, refl, sym, ap, ◌∙◌, arith}
 use Rattle.std.specs.Prelude.{Some, None}
-use Rattle.byte_fields.specs.Spelling.{IsBytes}
 use Rattle.byte_fields.specs.declared.parts.Part.TheVariants as part
-use Rattle.map_model.specs.SortedMap.{Bytes}
 use Rattle.entry_model.specs.Entries.{Entry, keys_of}
 use Rattle.block_model.specs.BlockReading.{block_in}
 use Rattle.block_model.specs.Formats.{format_in}
 use Rattle.block_model.specs.Pages.{last_key}
 use Rattle.block_model.specs.Places.{byte_of_page}
-use Rattle.image_model.specs.Findings.{Behind, Finding, WrongKeys, finding, has_its_keys}
+use Rattle.image_model.specs.Findings.{Behind, WrongKeys, finding, has_its_keys}
 use Rattle.table_file.specs.Search.{row_at}
 use Rattle.store_check.specs.Befores.{before_of}
 use Rattle.store_check.specs.Places.{page_of}

@@ -1,4 +1,4 @@
-use Rattle.std.proofs.Common.{◌≡◌, ◌≤◌, sym, subst, arith}
+use Rattle.std.proofs.Common.{sym, subst, arith}
 use Rattle.store_check.specs.Orders.{IsSoundAt}
 use Rattle.store_check.proofs.check.Check.at.Goals as goal
 

@@ -1,4 +1,4 @@
-use Rattle.std.proofs.Common.{◌≡◌, ◌≤◌, ◌*◌, ◌+◌, ◌++◌, ◌∷◌, [], ℕ, List, refl, sym, ap, ◌∙◌, subst, arith}
+use Rattle.std.proofs.Common.{◌≡◌, ◌≤◌, ◌*◌, ◌+◌, ◌++◌, ◌∷◌, [], List, sym, ap, ◌∙◌, subst, arith}
 use Rattle.byte_fields.specs.declared.parts.Part.TheVariants as part
 use Rattle.image_model.specs.Findings.{BrokenRule, Finding, LogFindings, broken, finding, spelled}
 use Rattle.gate_log.specs.Faults.{IsShapeIn}
@@ -36,9 +36,9 @@ returns-clause-same g c spelling first later tells =
       | in-Err-Device w ↦ none_at_err c.match-replay.result _ _ w.result-is
       | in-Err-Shape+in_ok-add-in-Err-Shape w ↦
           let said : waiting new ≡ finding part.Log w.in-Err-Shape.at (BrokenRule w.in-Err-Shape.rule) ∷ [] =
-              ap (λ (c : Check). waiting c) w.self-is ∙ w.in_ok-add-in-Err-Shape.ensures.added
-              ∙ ap (λ (fs : List Finding). fs ++ w.broken_log.result ∷ []) c.clear.ensures.items
-              ∙ ap (λ (f : Finding). f ∷ []) w.broken_log.ensures in
+          ap (λ (c : Check). waiting c) w.self-is ∙ w.in_ok-add-in-Err-Shape.ensures.added
+          ∙ ap (λ (fs : List Finding). fs ++ w.broken_log.result ∷ []) c.clear.ensures.items
+          ∙ ap (λ (f : Finding). f ∷ []) w.broken_log.ensures in
           let breaks : LogBreaks area w.in-Err-Shape.at w.in-Err-Shape.rule held = subst (IsShapeIn area held) w.in-Err-Shape.field-0-is (w.in-Err-Shape.ensures.shape tells) in
           let found = subst (LogFindings m.version held) (sym said) (broken area w.in-Err-Shape.at w.in-Err-Shape.rule page breaks) in
           at_ok c.match-replay.result _

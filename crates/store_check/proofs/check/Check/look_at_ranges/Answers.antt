@@ -1,4 +1,4 @@
-use Rattle.std.proofs.Common.{◌≡◌, ◌≤◌, ap, arith}
+use Rattle.std.proofs.Common.{ap, arith}
 use Rattle.manifest.specs.Manifest.{Manifest}
 use Rattle.store_check.proofs.Parts.{few_broken}
 use Rattle.store_check.proofs.check.Check.look_at_ranges.Goals as goal

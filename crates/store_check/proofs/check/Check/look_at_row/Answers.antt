@@ -1,5 +1,5 @@
-use Rattle.std.proofs.Common.{◌≡◌, ◌≤◌, ◌++◌, List, refl, sym, ap, ◌∙◌, subst, arith}
-use Rattle.std.specs.Prelude.{None, Some}
+use Rattle.std.proofs.Common.{◌≡◌, ◌++◌, List, refl, sym, ap, ◌∙◌, subst, arith}
+use Rattle.std.specs.Prelude.{None}
 use Rattle.std.specs.Option.{option_map}
 use Rattle.image_model.specs.Findings.{Finding}
 use Rattle.store_check.specs.Checks.{CheckOfVersion, VersionLeft}

@@ -1,4 +1,4 @@
-use Rattle.std.proofs.Common.{◌≡◌, ◌≤◌, arith}
+use Rattle.std.proofs.Common.{arith}
 use Rattle.store_check.proofs.Parts.{drop_none}
 use Rattle.store_check.proofs.check.Check.looks_on.Goals as goal
 

@@ -1,6 +1,5 @@
-use Rattle.std.proofs.Common.{◌≡◌, ◌≤◌, ◌<◌, List, length, refl, sym, ap, ◌∙◌, subst, arith}
+use Rattle.std.proofs.Common.{◌≡◌, length, sym, subst}
 use Rattle.disk_trait.specs.Image.{Image}
-use Rattle.image_model.specs.Findings.{Finding}
 use Rattle.store_check.specs.Checks.{AreLeft, IsCheckOf, parts_left, waiting}
 use Rattle.store_check.proofs.Causes.{only_then}
 use Rattle.store_check.proofs.Parts.{steps_lower}

@@ -1,6 +1,5 @@
-use Rattle.std.proofs.Common.{◌≡◌, ◌≤◌, ◌<◌, List, length, sym, ap, subst, arith}
+use Rattle.std.proofs.Common.{◌≡◌, ◌≤◌, ◌<◌, length, sym, ap, subst, arith}
 use Rattle.std.specs.List.{All}
-use Rattle.byte_fields.specs.declared.parts.Row.{Row}
 use Rattle.block_model.specs.Places.{FitsDevice}
 use Rattle.manifest.specs.Manifest.{Manifest}
 use Rattle.store_check.proofs.Parts.{fits_at, none_at}
