@@ -8,7 +8,6 @@ ghost use Rattle.block_model.specs.BlockReading.{block_fault, block_in};
 ghost use Rattle.block_model.specs.Pages.{page_bytes};
 ghost use Rattle.key_base.specs.Limits.{max_key_bytes};
 ghost use Rattle.image_model.specs.Findings.{AtLeast, may_follow};
-ghost use Rattle.table_file.specs.Search.{row_at};
 ghost use Rattle.store_check.specs.Befores.{before_of};
 ghost use Rattle.store_check.specs.Causes.{HasCause, IsFree};
 ghost use Rattle.store_check.specs.Keys.{AreRisen};

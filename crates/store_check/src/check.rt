@@ -1,5 +1,5 @@
 //! A check of a whole store, part by part.
-ghost use Rattle.std.specs.Prelude.{◌≡◌, ◌≢◌, ◌⊎◌, ◌≤◌, ◌<◌, ◌+◌, ◌-◌, ◌^◌, ◌∷◌, [], List, length, min, IsTrue, IfOk, IfErr, IfSome, OnOk, OnErr, Some, None, MatchOption, MatchResult, true, false, vec_len};
+ghost use Rattle.std.specs.Prelude.{◌≡◌, ◌≢◌, ◌⊎◌, ◌≤◌, ◌<◌, ◌+◌, ◌-◌, ◌^◌, ◌∷◌, [], List, length, IsTrue, IfOk, IfErr, IfSome, OnOk, Some, None, MatchOption, MatchResult, true, false, vec_len};
 ghost use Rattle.std.specs.Option.{ForSome};
 ghost use Rattle.block_model.specs.Places.{FitsDevice};
 ghost use Rattle.disk_trait.specs.Image.{Image};

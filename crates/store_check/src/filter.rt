@@ -1,5 +1,5 @@
 //! The filter of a table, compared with the table's keys.
-ghost use Rattle.std.specs.Prelude.{◌≡◌, ◌++◌, ℕ, IsTrue, IfOk, IfErr, IfSome, OnOk, OnErr};
+ghost use Rattle.std.specs.Prelude.{◌≡◌, IsTrue, IfOk, IfErr, IfSome, OnOk, OnErr};
 ghost use Rattle.disk_trait.specs.World.{ReadMoves};
 ghost use Rattle.filter_api.specs.Ranges.{IsRowInRange};
 ghost use Rattle.filter_model.specs.Answers.{first_difference};

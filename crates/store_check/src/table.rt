@@ -1,6 +1,5 @@
 //! What is wrong with one table.
-ghost use Rattle.std.specs.Prelude.{◌≡◌, ◌≤◌, ◌++◌, ◌&&◌, [], not, ◌==◌, length, true, IsTrue, IfOk, IfErr, IfSome, OnOk, OnErr};
-ghost use Rattle.disk_trait.specs.World.{ReadMoves};
+ghost use Rattle.std.specs.Prelude.{◌≡◌, ◌≤◌, ◌++◌, ◌&&◌, [], not, length, true, IsTrue, IfOk, IfErr, IfSome, OnOk, OnErr};
 ghost use Rattle.entry_model.specs.Entries.{keys_of};
 ghost use Rattle.filter_model.specs.Keys.{IsKeyList};
 ghost use Rattle.block_model.specs.Laws.{joined};
