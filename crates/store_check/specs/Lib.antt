@@ -2,7 +2,7 @@ pub use Rattle.byte_fields.specs.Faults
 pub use Rattle.disk_trait.specs.Image
 pub use Rattle.disk_trait.specs.World
 pub use Rattle.filter_api.specs.Spellings
-pub use Rattle.filter_model.specs.Keys
+pub use Rattle.filter_model.specs.Keys as FilterKeys
 pub use Rattle.entry_model.specs.Entries
 pub use Rattle.block_model.specs.BlockReading
 pub use Rattle.block_model.specs.Places as BlockPlaces
