@@ -1,5 +1,4 @@
 //! Bits, words and labels whose answers are known.
-use crate::asserts::{check_same, check_same_at, check_that};
 use bit_rank::Ranked;
 use bit_select::Selected;
 use bit_words::{Bits, BitsBuilder};
@@ -11,31 +10,31 @@ use std::test::Fail;
 
 #[test]
 fn set_bits_of_words(rt: HostRuntime) {
-    check_same(&rt, &ones(&[0xFF, 0x8000000000000001]), &10);
-    check_same(&rt, &ones_below(0xB9, 4), &2);
-    check_same(&rt, &lowest_one(0xB8), &3);
-    check_same(&rt, &highest_one(0xB8), &7);
-    check_same(&rt, &first_one_from(&[0xB9, 0, 1 << 63], 8), &Some(191));
-    check_same(&rt, &last_one_before(&[0xB9, 0, 1 << 63], 191), &Some(7));
+    assert_eq!(rt; ones(&[0xFF, 0x8000000000000001]), 10);
+    assert_eq!(rt; ones_below(0xB9, 4), 2);
+    assert_eq!(rt; lowest_one(0xB8), 3);
+    assert_eq!(rt; highest_one(0xB8), 7);
+    assert_eq!(rt; first_one_from(&[0xB9, 0, 1 << 63], 8), Some(191));
+    assert_eq!(rt; last_one_before(&[0xB9, 0, 1 << 63], 191), Some(7));
     for (n, want) in [
         (0, Some((0, 0))),
         (1, Some((2, 0))),
         (2, Some((2, 1))),
         (3, None),
     ] {
-        check_same_at(&rt, &n, &word_with_nth_one(&[1, 0, 6], n), &want);
+        assert_eq!(rt; word_with_nth_one(&[1, 0, 6], n), want, "number {n}");
     }
 }
 
 #[test]
 fn labels_are_found_at_their_first_place(rt: HostRuntime) {
     let labels = *b"fstaorspy";
-    check_same(&rt, &find_label(&labels, 0x73), &Some(1));
-    check_same(&rt, &first_at_least(&labels, 0x75), &Some(8));
-    check_same(&rt, &first_at_least(&labels, 0x7A), &None);
-    check_same(&rt, &find_label_between(&labels, 5, 7, b's'), &Some(6));
-    check_same(&rt, &find_label_between(&labels, 0, 3, b'a'), &None);
-    check_same(&rt, &first_at_least_between(&labels, 0, 3, b'y'), &None);
+    assert_eq!(rt; find_label(&labels, 0x73), Some(1));
+    assert_eq!(rt; first_at_least(&labels, 0x75), Some(8));
+    assert_eq!(rt; first_at_least(&labels, 0x7A), None);
+    assert_eq!(rt; find_label_between(&labels, 5, 7, b's'), Some(6));
+    assert_eq!(rt; find_label_between(&labels, 0, 3, b'a'), None);
+    assert_eq!(rt; first_at_least_between(&labels, 0, 3, b'y'), None);
 }
 
 #[test]
@@ -44,10 +43,10 @@ fn nine_bits(rt: HostRuntime) -> Result<(), Fail> {
     assert!(rt; bits.len() == 9 && !bits.is_empty() && bits.get(3));
     let mut out = Vec::new(rt.alloc());
     bits.to_bytes(&mut out)?;
-    check_same(&rt, &out.as_slice(), &[0xB9, 0x00].as_slice());
+    assert_eq!(rt; out.as_slice(), [0xB9, 0x00].as_slice());
     let ranked = Ranked::new(rt.alloc(), bits)?;
-    check_same(&rt, &ranked.words(), &[0xB9].as_slice());
-    check_that(&rt, ranked.rank(4) == 2 && ranked.rank(9) == 5);
+    assert_eq!(rt; ranked.words(), [0xB9].as_slice());
+    assert!(rt; ranked.rank(4) == 2 && ranked.rank(9) == 5);
     Ok(())
 }
 
@@ -62,9 +61,9 @@ fn the_fifth_and_last_of_nine_bits_is_at_seven(rt: HostRuntime) -> Result<(), Fa
         (5, None),
         (64, None),
     ] {
-        check_same_at(&rt, &n, &selected.select(n), &want);
+        assert_eq!(rt; selected.select(n), want, "number {n}");
     }
-    check_same(&rt, &selected.words(), &[0xB9].as_slice());
+    assert_eq!(rt; selected.words(), [0xB9].as_slice());
     Ok(())
 }
 
@@ -84,7 +83,7 @@ fn bits_far_behind_a_kept_place_are_found(rt: HostRuntime) -> Result<(), Fail> {
         (41, Some(2623)),
         (42, None),
     ] {
-        check_same_at(&rt, &n, &selected.select(n), &want);
+        assert_eq!(rt; selected.select(n), want, "number {n}");
     }
     Ok(())
 }
@@ -103,9 +102,9 @@ fn a_bit_comes_with_the_count_of_those_before_it(rt: HostRuntime) -> Result<(), 
         (319, (true, 159)),
     ] {
         assert!(rt; i < len);
-        check_that(&rt, ranked.bit_and_rank(i) == want);
+        assert!(rt; ranked.bit_and_rank(i) == want);
         let word = ranked.word_of(i / 2);
-        check_that(&rt, ranked.bit_and_rank_by(word, i) == want);
+        assert!(rt; ranked.bit_and_rank_by(word, i) == want);
     }
     Ok(())
 }
@@ -124,10 +123,9 @@ fn numbers_stand_one_after_the_other(rt: HostRuntime) -> Result<(), Fail> {
         assert!(rt; count <= 64);
         bits.push_number(number, count)?;
     }
-    check_same(
-        &rt,
-        &bits.words(),
-        &[0x8642_1646_8ACF_12B9, 0xFFFF_FFDB_9753_0ECA].as_slice(),
+    assert_eq!(rt;
+        bits.words(),
+        [0x8642_1646_8ACF_12B9, 0xFFFF_FFDB_9753_0ECA].as_slice()
     );
     for (i, count, want) in [
         (0, 9, 0xB9),
@@ -138,7 +136,7 @@ fn numbers_stand_one_after_the_other(rt: HostRuntime) -> Result<(), Fail> {
         (63, 2, 1),
     ] {
         assert!(rt; count <= 64 && i + count <= bits.len());
-        check_same_at(&rt, &i, &bits.number(i, count), &want);
+        assert_eq!(rt; bits.number(i, count), want, "{count} bits at {i}");
     }
     Ok(())
 }
@@ -152,6 +150,6 @@ fn nine_bits_fill_their_room(rt: HostRuntime) -> Result<(), Fail> {
             builder.push(bit);
         }
     }
-    check_same(&rt, &builder.finish().words(), &[0xB9].as_slice());
+    assert_eq!(rt; builder.finish().words(), [0xB9].as_slice());
     Ok(())
 }

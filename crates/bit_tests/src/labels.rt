@@ -1,5 +1,4 @@
 //! Labels that are looked for, by loops over them.
-use crate::asserts::check_that_at;
 use crate::patterns::next_number;
 use lane_scan::{find_label, find_label_between, first_at_least, first_at_least_between};
 use std::alloc::Global;
@@ -28,7 +27,7 @@ fn labels_agree_with_the_plain_loops(rt: HostRuntime) -> Result<(), Fail> {
     for len in 0..300 {
         let labels = random_labels(rt.alloc(), number, len, 63)?;
         number = next_number(number);
-        check_that_at(&rt, &len, is_found(&labels, (number >> 58) as u8));
+        assert!(rt; is_found(&labels, (number >> 58) as u8), "{len} labels");
     }
     Ok(())
 }
@@ -55,7 +54,10 @@ fn labels_in_a_section_agree_with_the_plain_loops(rt: HostRuntime) -> Result<(),
             for start in 0..end {
                 number = next_number(number);
                 let label = (number >> 60) as u8;
-                check_that_at(&rt, &end, is_found_between(&labels, start, end, label));
+                assert!(rt;
+                    is_found_between(&labels, start, end, label),
+                    "{start} to {end}"
+                );
             }
         }
     }

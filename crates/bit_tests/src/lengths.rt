@@ -1,5 +1,4 @@
 //! Ranks, selects and neighbours of bits of every length, by loops over single bits.
-use crate::asserts::{check_same, check_same_at, check_that_at};
 use crate::patterns::{Pattern, bits_of};
 use bit_rank::Ranked;
 use bit_select::Selected;
@@ -61,15 +60,14 @@ fn every_length_agrees_with_the_plain_loops(rt: HostRuntime) -> Result<(), Fail>
     for pattern in [Pattern::All, Pattern::None, Pattern::Random] {
         for len in 0..1101 {
             let plain = bits_of(alloc, pattern, len)?;
-            check_same(&rt, &plain.len(), &len);
-            check_that_at(
-                &rt,
-                &len,
+            assert_eq!(rt; plain.len(), len);
+            assert!(rt;
                 ranks_agree(alloc, &plain, bits_of(alloc, pattern, len)?)?,
+                "{pattern:?}, {len} bits"
             );
             let selected = Selected::new(alloc, bits_of(alloc, pattern, len)?)?;
-            check_that_at(&rt, &len, selects_agree(&plain, &selected));
-            check_that_at(&rt, &len, bytes_agree(alloc, &plain)?);
+            assert!(rt; selects_agree(&plain, &selected), "{pattern:?}, {len} bits");
+            assert!(rt; bytes_agree(alloc, &plain)?, "{pattern:?}, {len} bits");
         }
     }
     Ok(())
@@ -101,17 +99,15 @@ fn ones_beside_a_place_agree_with_the_plain_loops(rt: HostRuntime) -> Result<(),
     for pattern in [Pattern::All, Pattern::None, Pattern::Random] {
         let bits = bits_of(rt.alloc(), pattern, 200)?;
         for place in 0..260 {
-            check_same_at(
-                &rt,
-                &place,
-                &bits.first_one_from(place),
-                &first_from(&bits, place),
+            assert_eq!(rt;
+                bits.first_one_from(place),
+                first_from(&bits, place),
+                "{place}"
             );
-            check_same_at(
-                &rt,
-                &place,
-                &bits.last_one_before(place),
-                &last_before(&bits, place),
+            assert_eq!(rt;
+                bits.last_one_before(place),
+                last_before(&bits, place),
+                "{place}"
             );
         }
     }

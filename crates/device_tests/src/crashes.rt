@@ -1,5 +1,4 @@
 //! Tests of a disk in memory: its calls, their failing, its crashes.
-use crate::asserts::{check_same, check_that};
 use disk_mem::{Choice, MemDisk};
 use disk_trait::{Disk, DiskFault};
 use std::alloc::{AllocError, Global};
@@ -29,27 +28,22 @@ fn torn(alloc: Global, bytes: &[u8]) -> Result<Choice, AllocError> {
 fn each_choice_on_two_overlapping_writes(rt: HostRuntime) -> Result<(), Fail> {
     let alloc = rt.alloc();
     let disk = overlapping(alloc)?;
-    check_that(&rt, leaves(&disk, &[], &[0, 0, 0, 0, 0, 0])?);
-    check_that(&rt, leaves(&disk, &[Choice::Whole], &[1, 2, 3, 4, 0, 0])?);
-    check_that(
-        &rt,
-        leaves(&disk, &[Choice::Lost, Choice::Whole], &[0, 0, 5, 6, 7, 8])?,
-    );
-    check_that(
-        &rt,
+    assert!(rt; leaves(&disk, &[], &[0, 0, 0, 0, 0, 0])?);
+    assert!(rt; leaves(&disk, &[Choice::Whole], &[1, 2, 3, 4, 0, 0])?);
+    assert!(rt; leaves(&disk, &[Choice::Lost, Choice::Whole], &[0, 0, 5, 6, 7, 8])?);
+    assert!(rt;
         leaves(
             &disk,
             &[Choice::Whole, torn(alloc, &[9, 5, 3, 8])?],
-            &[1, 2, 9, 5, 3, 8],
-        )?,
+            &[1, 2, 9, 5, 3, 8]
+        )?
     );
-    check_that(
-        &rt,
+    assert!(rt;
         leaves(
             &disk,
             &[torn(alloc, &[9])?, Choice::Whole],
-            &[0, 0, 5, 6, 7, 8],
-        )?,
+            &[0, 0, 5, 6, 7, 8]
+        )?
     );
     Ok(())
 }
@@ -58,11 +52,11 @@ fn each_choice_on_two_overlapping_writes(rt: HostRuntime) -> Result<(), Fail> {
 fn a_write_that_failed_may_stand_until_a_sync(rt: HostRuntime) -> Result<(), Fail> {
     let alloc = rt.alloc();
     let mut disk = MemDisk::new(alloc, &[7, 7])?.with_faults(Vec::from_slice(alloc, &[0, 1])?);
-    check_that(&rt, disk.write(0, &[1]).is_err());
-    check_that(&rt, disk.sync().is_err());
-    check_that(&rt, leaves(&disk, &[Choice::Whole], &[1, 7])?);
-    check_that(&rt, disk.sync().is_ok());
-    check_that(&rt, leaves(&disk, &[Choice::Whole], &[7, 7])?);
+    assert!(rt; disk.write(0, &[1]).is_err());
+    assert!(rt; disk.sync().is_err());
+    assert!(rt; leaves(&disk, &[Choice::Whole], &[1, 7])?);
+    assert!(rt; disk.sync().is_ok());
+    assert!(rt; leaves(&disk, &[Choice::Whole], &[7, 7])?);
     Ok(())
 }
 
@@ -70,11 +64,11 @@ fn a_write_that_failed_may_stand_until_a_sync(rt: HostRuntime) -> Result<(), Fai
 fn a_read_past_the_end_is_zeros(rt: HostRuntime) -> Result<(), Fail> {
     let mut disk = MemDisk::new(rt.alloc(), &[7, 8, 9])?;
     let mut bytes = [1; 4];
-    check_that(&rt, disk.read(1, &mut bytes).is_ok());
-    check_same(&rt, &bytes, &[8, 9, 0, 0]);
-    check_that(&rt, disk.read(281474976710652, &mut bytes).is_ok());
-    check_same(&rt, &bytes, &[0, 0, 0, 0]);
-    check_same(&rt, &disk.reads(), &2);
+    assert!(rt; disk.read(1, &mut bytes).is_ok());
+    assert_eq!(rt; bytes, [8, 9, 0, 0]);
+    assert!(rt; disk.read(281474976710652, &mut bytes).is_ok());
+    assert_eq!(rt; bytes, [0, 0, 0, 0]);
+    assert_eq!(rt; disk.reads(), 2);
     Ok(())
 }
 
@@ -84,11 +78,11 @@ fn a_write_near_the_last_place_finds_no_memory(rt: HostRuntime) -> Result<(), Fa
     let alloc = rt.alloc();
     let mut disk = MemDisk::new(alloc, &[7])?.with_faults(Vec::from_slice(alloc, &[0])?);
     disk.reserve(4, 64)?;
-    check_that(&rt, disk.write(281474976710655, &[1]).is_err());
-    check_same(&rt, &disk.starved(), &1);
-    check_that(&rt, disk.write(0, &[1]).is_err());
-    check_same(&rt, &disk.starved(), &1);
-    check_same(&rt, &disk.bytes(), &[7].as_slice());
+    assert!(rt; disk.write(281474976710655, &[1]).is_err());
+    assert_eq!(rt; disk.starved(), 1);
+    assert!(rt; disk.write(0, &[1]).is_err());
+    assert_eq!(rt; disk.starved(), 1);
+    assert_eq!(rt; disk.bytes(), [7].as_slice());
     Ok(())
 }
 
@@ -102,7 +96,7 @@ fn a_call_without_memory_does_nothing(rt: HostRuntime) {
         let starved = disk.starved();
         let size = disk.bytes().len();
         let written = disk.write(u64::from(place), &[3, 4]).is_ok();
-        check_same(&rt, &written, &(disk.starved() == starved));
-        check_that(&rt, written || disk.bytes().len() == size);
+        assert_eq!(rt; written, disk.starved() == starved);
+        assert!(rt; written || disk.bytes().len() == size);
     }
 }

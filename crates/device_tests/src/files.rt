@@ -1,5 +1,4 @@
 //! Tests of a real file.
-use crate::asserts::{check_same, check_that};
 use disk_trait::Disk;
 use real_outside::FileOutside;
 use std::fs;
@@ -9,18 +8,14 @@ use std::test::Fail;
 fn a_file_is_made_at_the_first_call_and_keeps_what_is_written(rt: HostRuntime) -> Result<(), Fail> {
     let name = "made_by_a_test.bin";
     let mut out = FileOutside::at(rt, String::from_str(rt.alloc(), name)?);
-    check_that(&rt, !fs::exists(&rt, name)?);
+    assert!(rt; !fs::exists(&rt, name)?);
     let mut bytes = [9; 4];
-    check_that(&rt, out.read(2, &mut bytes).is_ok());
-    check_same(&rt, &bytes, &[0, 0, 0, 0]);
-    check_that(&rt, out.write(3, &[7, 8]).is_ok() && out.sync().is_ok());
-    check_that(&rt, out.read(2, &mut bytes).is_ok());
-    check_same(&rt, &bytes, &[0, 7, 8, 0]);
-    check_same(
-        &rt,
-        &fs::read(&rt, name)?.as_slice(),
-        &[0, 0, 0, 7, 8].as_slice(),
-    );
+    assert!(rt; out.read(2, &mut bytes).is_ok());
+    assert_eq!(rt; bytes, [0, 0, 0, 0]);
+    assert!(rt; out.write(3, &[7, 8]).is_ok() && out.sync().is_ok());
+    assert!(rt; out.read(2, &mut bytes).is_ok());
+    assert_eq!(rt; bytes, [0, 7, 8, 0]);
+    assert_eq!(rt; fs::read(&rt, name)?.as_slice(), [0, 0, 0, 7, 8].as_slice());
     fs::remove_file(&rt, name)?;
     Ok(())
 }
@@ -30,10 +25,10 @@ fn a_file_is_open_once_at_a_time(rt: HostRuntime) -> Result<(), Fail> {
     let name = "locked_by_a_test.bin";
     let mut first = FileOutside::at(rt, String::from_str(rt.alloc(), name)?);
     let mut second = FileOutside::at(rt, String::from_str(rt.alloc(), name)?);
-    check_that(&rt, first.write(0, &[1]).is_ok());
-    check_that(&rt, second.write(0, &[2]).is_err());
+    assert!(rt; first.write(0, &[1]).is_ok());
+    assert!(rt; second.write(0, &[2]).is_err());
     drop(first);
-    check_that(&rt, second.write(0, &[2]).is_ok());
+    assert!(rt; second.write(0, &[2]).is_ok());
     fs::remove_file(&rt, name)?;
     Ok(())
 }

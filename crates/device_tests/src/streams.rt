@@ -1,5 +1,4 @@
 //! Tests of the input and the output in memory.
-use crate::asserts::{check_same, check_that};
 use disk_mem::MemDisk;
 use outside::{MemOutside, Outside, SayFault, TakeFault, say_all};
 use std::alloc::{AllocError, Global};
@@ -31,11 +30,11 @@ fn say_both(out: &mut MemOutside) -> Result<(), SayFault> {
 fn the_input_comes_in_pieces_and_ends(rt: HostRuntime) -> Result<(), Fail> {
     let mut out = outside_over(rt.alloc(), b"abcde", &[1], &[])?.with_pace(4);
     let mut into = [0; 8];
-    check_that(&rt, out.take(&mut into) == Ok(4));
-    check_same(&rt, &&into[..4], &b"abcd".as_slice());
-    check_that(&rt, out.take(&mut into) == Err(TakeFault));
-    check_that(&rt, out.take(&mut into) == Ok(1));
-    check_that(&rt, out.take(&mut into) == Ok(0));
+    assert!(rt; out.take(&mut into) == Ok(4));
+    assert_eq!(rt; &into[..4], b"abcd".as_slice());
+    assert!(rt; out.take(&mut into) == Err(TakeFault));
+    assert!(rt; out.take(&mut into) == Ok(1));
+    assert!(rt; out.take(&mut into) == Ok(0));
     Ok(())
 }
 
@@ -43,7 +42,7 @@ fn the_input_comes_in_pieces_and_ends(rt: HostRuntime) -> Result<(), Fail> {
 fn a_prefix_is_said_where_a_later_say_fails(rt: HostRuntime) -> Result<(), Fail> {
     let alloc = rt.alloc();
     let mut out = outside_over(alloc, b"", &[], &[3])?.with_pace(2);
-    check_that(&rt, say_both(&mut out) == Err(SayFault));
-    check_same(&rt, &out.said(), &b"ok\nby".as_slice());
+    assert!(rt; say_both(&mut out) == Err(SayFault));
+    assert_eq!(rt; out.said(), b"ok\nby".as_slice());
     Ok(())
 }

@@ -13,8 +13,6 @@
 #![tactic(auto)]
 
 #[cfg(test)]
-mod asserts;
-#[cfg(test)]
 mod loads;
 #[cfg(test)]
 mod maps;

@@ -1,5 +1,4 @@
 //! Loads beside the standard library's ordered map.
-use crate::asserts::{check_same, check_that};
 use crate::plain_load::{loaded, summed};
 use load_gen::LoadGen;
 use std::alloc::Global;
@@ -30,16 +29,15 @@ fn by_ordered_map(alloc: Global, seed: u64, count: u32) -> Result<(usize, u64), 
 #[test]
 fn one_step_of_seed_1(rt: HostRuntime) -> Result<(), Fail> {
     let map = loaded(rt.alloc(), 1, 1)?;
-    check_that(
-        &rt,
+    assert!(rt;
         matches!(
             map.get(b"\x6c\x57\x6f"),
             Some(b"\x7c\x00\xfd\x43\xac\x6f\x57\x6c")
-        ),
+        )
     );
     let summary = summed(&map);
-    check_same(&rt, &summary.live(), &1);
-    check_same(&rt, &summary.sum(), &0x6c57_6fac_43fd_007c);
+    assert_eq!(rt; summary.live(), 1);
+    assert_eq!(rt; summary.sum(), 0x6c57_6fac_43fd_007c);
     Ok(())
 }
 
@@ -54,8 +52,8 @@ fn loads_of_several_seeds(rt: HostRuntime) -> Result<(), Fail> {
         (3, 0, 0, 0),
     ] {
         let summary = summed(&loaded(rt.alloc(), seed, count)?);
-        check_same(&rt, &summary.live(), &live);
-        check_same(&rt, &summary.sum(), &sum);
+        assert_eq!(rt; summary.live(), live);
+        assert_eq!(rt; summary.sum(), sum);
     }
     Ok(())
 }
@@ -64,9 +62,9 @@ fn loads_of_several_seeds(rt: HostRuntime) -> Result<(), Fail> {
 fn two_thousand_steps_of_seed_7_as_on_an_ordered_map(rt: HostRuntime) -> Result<(), Fail> {
     let summary = summed(&loaded(rt.alloc(), 7, 2000)?);
     let (live, sum) = by_ordered_map(rt.alloc(), 7, 2000)?;
-    check_same(&rt, &summary.live(), &1778);
-    check_same(&rt, &summary.sum(), &0xea61_4966_00cf_4337);
-    check_same(&rt, &live, &1778);
-    check_same(&rt, &sum, &0xea61_4966_00cf_4337);
+    assert_eq!(rt; summary.live(), 1778);
+    assert_eq!(rt; summary.sum(), 0xea61_4966_00cf_4337);
+    assert_eq!(rt; live, 1778);
+    assert_eq!(rt; sum, 0xea61_4966_00cf_4337);
     Ok(())
 }

@@ -1,5 +1,4 @@
 //! Plain maps, key lists and byte order, whose answers are known.
-use crate::asserts::{check_same, check_that};
 use key_base::{KeyList, compare, shared};
 use plain_map::{Pair, PlainMap};
 use std::alloc::{AllocError, Global};
@@ -24,9 +23,9 @@ fn a_slice_is_cut_to_its_number(rt: HostRuntime) -> Result<(), Fail> {
         (b"b", b"a", 9, 0),
     ];
     for (lo, hi, n, pairs) in rows {
-        check_same(&rt, &map.slice(lo, Some(hi), n)?.len(), &pairs);
+        assert_eq!(rt; map.slice(lo, Some(hi), n)?.len(), pairs);
     }
-    check_that(&rt, matches!(map.slice(b"", None, 1)?.get(b"a"), Some(b"")));
+    assert!(rt; matches!(map.slice(b"", None, 1)?.get(b"a"), Some(b"")));
     Ok(())
 }
 
@@ -41,7 +40,7 @@ fn a_seek_gives_the_first_key_between(rt: HostRuntime) -> Result<(), Fail> {
         (b"b", Some(b"b"), Some(b"b")),
     ];
     for (lo, hi, want) in rows {
-        check_same(&rt, &map.seek(lo, hi).map(Pair::key), &want);
+        assert_eq!(rt; map.seek(lo, hi).map(Pair::key), want);
     }
     Ok(())
 }
@@ -58,7 +57,7 @@ fn a_count_counts_the_keys_between(rt: HostRuntime) -> Result<(), Fail> {
         (b"ab", None, 1),
     ];
     for (lo, hi, want) in rows {
-        check_same(&rt, &map.count(lo, hi), &want);
+        assert_eq!(rt; map.count(lo, hi), want);
     }
     Ok(())
 }
@@ -67,30 +66,30 @@ fn a_count_counts_the_keys_between(rt: HostRuntime) -> Result<(), Fail> {
 fn a_put_replaces_and_a_del_takes_away(rt: HostRuntime) -> Result<(), Fail> {
     let mut map = two(rt.alloc())?;
     map.put(b"b", b"\x02")?;
-    check_same(&rt, &map.len(), &2);
-    check_that(&rt, matches!(map.get(b"b"), Some(b"\x02")));
+    assert_eq!(rt; map.len(), 2);
+    assert!(rt; matches!(map.get(b"b"), Some(b"\x02")));
     map.del(b"a");
     map.del(b"c");
-    check_that(&rt, map.get(b"a").is_none() && !map.is_empty());
+    assert!(rt; map.get(b"a").is_none() && !map.is_empty());
     Ok(())
 }
 
 #[test]
 fn keys_stand_in_the_order_of_pushing(rt: HostRuntime) -> Result<(), Fail> {
     let mut keys = KeyList::new(rt.alloc());
-    check_that(&rt, keys.is_empty());
+    assert!(rt; keys.is_empty());
     keys.push(b"far")?;
     keys.push(b"")?;
     assert!(rt; keys.len() == 2);
-    check_same(&rt, &keys.get(0), &b"far".as_slice());
+    assert_eq!(rt; keys.get(0), b"far".as_slice());
     keys.push(b"fast")?;
-    check_same(&rt, &keys.get(2), &b"fast".as_slice());
+    assert_eq!(rt; keys.get(2), b"fast".as_slice());
     keys.truncate(1);
     keys.push(b"toy")?;
     assert!(rt; keys.len() == 2);
-    check_same(&rt, &keys.get(1), &b"toy".as_slice());
+    assert_eq!(rt; keys.get(1), b"toy".as_slice());
     keys.truncate(0);
-    check_that(&rt, keys.is_empty());
+    assert!(rt; keys.is_empty());
     Ok(())
 }
 
@@ -104,6 +103,6 @@ fn byte_strings_compare_and_share(rt: HostRuntime) {
         (b"\xff", b"a", Ordering::Greater, 0),
     ];
     for (a, b, order, common) in rows {
-        check_same(&rt, &(compare(a, b), shared(a, b)), &(order, common));
+        assert_eq!(rt; (compare(a, b), shared(a, b)), (order, common));
     }
 }

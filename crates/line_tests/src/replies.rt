@@ -1,5 +1,4 @@
 //! Replies in pieces.
-use crate::asserts::{check_same, check_that, check_that_at};
 use byte_fields::{Damage, Part};
 use store_commands::{Reply, piece};
 
@@ -41,7 +40,7 @@ fn replies_in_buffers_of_every_size(rt: HostRuntime) {
     ];
     for (reply, text) in rows {
         for size in [1, 7, 64] {
-            check_that_at(&rt, &text, is_said_alike(&reply, text.as_bytes(), size));
+            assert!(rt; is_said_alike(&reply, text.as_bytes(), size), "{text}");
         }
     }
 }
@@ -68,10 +67,9 @@ fn damage_in_buffers_of_every_size(rt: HostRuntime) {
     ];
     for (damage, text) in rows {
         for size in [1, 7, 64] {
-            check_that_at(
-                &rt,
-                &text,
+            assert!(rt;
                 is_said_alike(&Reply::Damaged(damage), text.as_bytes(), size),
+                "{text}"
             );
         }
     }
@@ -95,9 +93,9 @@ fn is_said_alike(reply: &Reply<'_>, text: &[u8], size: usize) -> bool {
 fn the_longest_value(rt: HostRuntime) {
     let reply = Reply::Value(&[b'z'; 65_536]);
     let mut text = [0; 131_100];
-    check_same(&rt, &piece(&reply, 0, &mut text), &131_077);
-    check_that(&rt, &text[..8] == b"val 7a7a".as_slice());
-    check_that(&rt, &text[131_072..131_077] == b"7a7a\n".as_slice());
-    check_same(&rt, &piece(&reply, 131_076, &mut text), &1);
-    check_same(&rt, &piece(&reply, 131_077, &mut text), &0);
+    assert_eq!(rt; piece(&reply, 0, &mut text), 131_077);
+    assert!(rt; &text[..8] == b"val 7a7a".as_slice());
+    assert!(rt; &text[131_072..131_077] == b"7a7a\n".as_slice());
+    assert_eq!(rt; piece(&reply, 131_076, &mut text), 1);
+    assert_eq!(rt; piece(&reply, 131_077, &mut text), 0);
 }

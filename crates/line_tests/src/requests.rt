@@ -1,5 +1,4 @@
 //! Lines that are read as requests.
-use crate::asserts::{check_same_at, check_that, check_that_at};
 use std::alloc::{AllocError, Global};
 use std::test::Fail;
 use store_commands::{BadLine, Request, Scratch, next_line, parse_line};
@@ -58,7 +57,7 @@ fn lines_of_every_verb(rt: HostRuntime) -> Result<(), Fail> {
         let Ok(request) = parse_line(line.as_bytes(), &mut scratch) else {
             return Err(Fail::from("a line that asks nothing"));
         };
-        check_same_at(&rt, &line, &shown(request), &wanted);
+        assert_eq!(rt; shown(request), wanted, "of '{line}'");
     }
     Ok(())
 }
@@ -99,11 +98,10 @@ const BROKEN: [(&str, u8); 28] = [
 fn the_first_rule_that_a_line_breaks(rt: HostRuntime) -> Result<(), Fail> {
     let mut scratch = Scratch::new(rt.alloc())?;
     for (line, wanted) in BROKEN {
-        check_same_at(
-            &rt,
-            &line,
-            &code(parse_line(line.as_bytes(), &mut scratch)),
-            &wanted,
+        assert_eq!(rt;
+            code(parse_line(line.as_bytes(), &mut scratch)),
+            wanted,
+            "of '{line}'"
         );
     }
     Ok(())
@@ -132,7 +130,11 @@ fn the_longest_line(rt: HostRuntime) -> Result<(), Fail> {
     let mut scratch = Scratch::new(rt.alloc())?;
     for (first, len, wanted) in LONG {
         let line = line_of(rt.alloc(), first, len)?;
-        check_same_at(&rt, &len, &code(parse_line(&line, &mut scratch)), &wanted);
+        assert_eq!(rt;
+            code(parse_line(&line, &mut scratch)),
+            wanted,
+            "of {len} bytes"
+        );
     }
     Ok(())
 }
@@ -158,8 +160,8 @@ fn long_words_are_read_whole(rt: HostRuntime) -> Result<(), Fail> {
     for (first, len, wanted) in rows {
         let line = line_of(rt.alloc(), first, len)?;
         match parse_line(&line, &mut scratch) {
-            Ok(request) => check_same_at(&rt, &len, &lengths(request), &wanted),
-            Err(_) => check_that_at(&rt, &len, false),
+            Ok(request) => assert_eq!(rt; lengths(request), wanted, "of {len} bytes"),
+            Err(_) => assert!(rt; false, "of {len} bytes"),
         }
     }
     Ok(())
@@ -167,11 +169,8 @@ fn long_words_are_read_whole(rt: HostRuntime) -> Result<(), Fail> {
 
 #[test]
 fn lines_are_cut_at_newlines(rt: HostRuntime) {
-    check_that(
-        &rt,
-        matches!(next_line(b"get 61\n\nquit"), Some((b"get 61", b"\nquit"))),
-    );
-    check_that(&rt, matches!(next_line(b"\nquit"), Some((b"", b"quit"))));
-    check_that(&rt, next_line(b"quit").is_none());
-    check_that(&rt, next_line(b"").is_none());
+    assert!(rt; matches!(next_line(b"get 61\n\nquit"), Some((b"get 61", b"\nquit"))));
+    assert!(rt; matches!(next_line(b"\nquit"), Some((b"", b"quit"))));
+    assert!(rt; next_line(b"quit").is_none());
+    assert!(rt; next_line(b"").is_none());
 }

@@ -1,5 +1,4 @@
 //! The log over a disk that crashes, replayed and put into a table.
-use crate::asserts::{check_same, check_same_at, check_that};
 use crate::boxes::{boxed, failing_disk, new_disk};
 use disk_mem::{Choice, MemDisk};
 use disk_trait::{Disk, DiskFault, Op};
@@ -128,23 +127,20 @@ fn every_crash_choice_at_every_write_of_five_appends(rt: HostRuntime) -> Result<
         (1, (4, 4, 2), (5, 4, 1)),
     ];
     for (stop, (length, without, with)) in rows.iter().copied().enumerate() {
-        check_same_at(
-            &rt,
-            &stop,
-            &after_a_stop(alloc, &mut buf, stop, length, 0)?,
-            &with,
+        assert_eq!(rt;
+            after_a_stop(alloc, &mut buf, stop, length, 0)?,
+            with,
+            "whole, stopped at write {stop}"
         );
-        check_same_at(
-            &rt,
-            &stop,
-            &after_a_stop(alloc, &mut buf, stop, length, 1)?,
-            &without,
+        assert_eq!(rt;
+            after_a_stop(alloc, &mut buf, stop, length, 1)?,
+            without,
+            "lost, stopped at write {stop}"
         );
-        check_same_at(
-            &rt,
-            &stop,
-            &after_a_stop(alloc, &mut buf, stop, length, 2)?,
-            &without,
+        assert_eq!(rt;
+            after_a_stop(alloc, &mut buf, stop, length, 2)?,
+            without,
+            "07, stopped at write {stop}"
         );
     }
     Ok(())
@@ -178,19 +174,11 @@ fn a_gate_left_as_07_is_closed(rt: HostRuntime) -> Result<(), Fail> {
     let alloc = rt.alloc();
     let mut buf = vec![in alloc; 0; BUFFER_BYTES]?;
     let mut disk = stopped_at_the_third_gate(alloc, &mut buf)?;
-    check_same(&rt, &read_of(alloc, &mut disk, b"far", b"top")?, &(2, 3, 0));
-    check_same(
-        &rt,
-        &read_of(alloc, &mut disk, b"fast", b"top")?,
-        &(2, 3, 0),
-    );
-    check_that(&rt, put_again(alloc, &mut disk, &mut buf));
+    assert_eq!(rt; read_of(alloc, &mut disk, b"far", b"top")?, (2, 3, 0));
+    assert_eq!(rt; read_of(alloc, &mut disk, b"fast", b"top")?, (2, 3, 0));
+    assert!(rt; put_again(alloc, &mut disk, &mut buf));
     let mut again = boxed(alloc, disk.crash(&[])?)?;
-    check_same(
-        &rt,
-        &read_of(alloc, &mut again, b"fast", b"top")?,
-        &(3, 3, 4),
-    );
+    assert_eq!(rt; read_of(alloc, &mut again, b"fast", b"top")?, (3, 3, 4));
     Ok(())
 }
 
@@ -213,8 +201,8 @@ fn entries_move_to_the_other_area(rt: HostRuntime) -> Result<(), Fail> {
     let alloc = rt.alloc();
     let mut buf = vec![in alloc; 0; BUFFER_BYTES]?;
     let mut disk = new_disk(alloc)?;
-    check_same(&rt, &five_appends(&mut disk, &mut buf), &5);
-    check_same(&rt, &moved(alloc, &mut disk, &mut buf)?, &5);
+    assert_eq!(rt; five_appends(&mut disk, &mut buf), 5);
+    assert_eq!(rt; moved(alloc, &mut disk, &mut buf)?, 5);
     Ok(())
 }
 
@@ -246,11 +234,11 @@ fn a_log_filled_to_its_last_byte(rt: HostRuntime) -> Result<(), Fail> {
     let alloc = rt.alloc();
     let mut buf = vec![in alloc; 0; BUFFER_BYTES]?;
     let mut disk = new_disk(alloc)?;
-    check_that(&rt, filled_to(alloc, &mut disk, &mut buf, 1)?);
+    assert!(rt; filled_to(alloc, &mut disk, &mut buf, 1)?);
     let (entries, of_k, _) = read_of(alloc, &mut disk, b"k", b"j")?;
-    check_same(&rt, &entries, &4);
-    check_same(&rt, &of_k, &62_432);
-    check_that(&rt, !filled_to(alloc, &mut disk, &mut buf, 0)?);
+    assert_eq!(rt; entries, 4);
+    assert_eq!(rt; of_k, 62_432);
+    assert!(rt; !filled_to(alloc, &mut disk, &mut buf, 0)?);
     Ok(())
 }
 
@@ -258,33 +246,29 @@ fn a_log_filled_to_its_last_byte(rt: HostRuntime) -> Result<(), Fail> {
 fn a_fault_names_the_byte_of_the_device(rt: HostRuntime) -> Result<(), Fail> {
     let alloc = rt.alloc();
     let mut disk = new_disk(alloc)?;
-    check_that(
-        &rt,
+    assert!(rt;
         disk.write(LOG_BYTES as u64, &[1, 3, 1, 0, 0, 0, 0, 0, 107])
-            .is_ok(),
+            .is_ok()
     );
-    check_that(
-        &rt,
+    assert!(rt;
         disk.write(524_288, &[1, 2, 1, 0, 0, 0, 0, 0, 107, 1, 1, 0, 0])
-            .is_ok(),
+            .is_ok()
     );
-    check_same(
-        &rt,
-        &fault_of(alloc, &mut disk, 0),
-        &Some(LogFault::Shape {
+    assert_eq!(rt;
+        fault_of(alloc, &mut disk, 0),
+        Some(LogFault::Shape {
             at: LOG_BYTES as u64,
-            rule: 2,
-        }),
+            rule: 2
+        })
     );
-    check_same(
-        &rt,
-        &fault_of(alloc, &mut disk, 1),
-        &Some(LogFault::Shape {
+    assert_eq!(rt;
+        fault_of(alloc, &mut disk, 1),
+        Some(LogFault::Shape {
             at: 524_297,
-            rule: 3,
-        }),
+            rule: 3
+        })
     );
-    check_same(&rt, &disk.reads(), &2);
+    assert_eq!(rt; disk.reads(), 2);
     Ok(())
 }
 
@@ -303,10 +287,9 @@ fn a_read_that_fails_is_named(rt: HostRuntime) -> Result<(), Fail> {
         op: Op::Read,
         at: 524_288,
     };
-    check_same(
-        &rt,
-        &fault_of(alloc, &mut disk, 1),
-        &Some(LogFault::Device(fault)),
+    assert_eq!(rt;
+        fault_of(alloc, &mut disk, 1),
+        Some(LogFault::Device(fault))
     );
     Ok(())
 }
@@ -333,13 +316,12 @@ fn bytes_of_two_records(alloc: Global) -> Result<[u8; 20], Fail> {
 
 #[test]
 fn the_bytes_of_a_put_and_a_delete(rt: HostRuntime) -> Result<(), Fail> {
-    check_same(
-        &rt,
-        &bytes_of_two_records(rt.alloc())?,
-        &[
+    assert_eq!(rt;
+        bytes_of_two_records(rt.alloc())?,
+        [
             1, 1, 1, 0, 1, 0, 0, 0, 0x61, 0x62, //
-            1, 2, 1, 0, 0, 0, 0, 0, 0x61, 0,
-        ],
+            1, 2, 1, 0, 0, 0, 0, 0, 0x61, 0
+        ]
     );
     Ok(())
 }

@@ -1,5 +1,4 @@
 //! Tests of the rules of a record, and of where records end.
-use crate::asserts::{check_same, check_that};
 use byte_fields::PartFault;
 use gate_log::entries_in;
 use std::alloc::Global;
@@ -28,10 +27,9 @@ fn each_rule_of_a_record_at_its_place(rt: HostRuntime) {
         (&[1, 2, 1, 0, 0, 0, 0, 0, 107, 1, 9, 1, 0, 0, 0, 0, 0], 9, 2),
     ];
     for (bytes, place, rule) in examples {
-        check_same(
-            &rt,
-            &fault_of(rt.alloc(), bytes),
-            &PartFault::Shape { place, rule },
+        assert_eq!(rt;
+            fault_of(rt.alloc(), bytes),
+            PartFault::Shape { place, rule }
         );
     }
 }
@@ -44,10 +42,10 @@ fn records_end_at_a_gate_that_is_not_open(rt: HostRuntime) -> Result<(), Fail> {
     let Ok((entries, end)) = entries_in(rt.alloc(), &bytes) else {
         return Err(Fail::from("no entries"));
     };
-    check_same(&rt, &end, &19);
+    assert_eq!(rt; end, 19);
     assert_eq!(rt; entries.len(), 2);
-    check_same(&rt, &entries[0].key(), &b"k".as_slice());
-    check_that(&rt, matches!(entries[0].value(), Some(b"x")));
-    check_that(&rt, entries[1].value().is_none());
+    assert_eq!(rt; entries[0].key(), b"k".as_slice());
+    assert!(rt; matches!(entries[0].value(), Some(b"x")));
+    assert!(rt; entries[1].value().is_none());
     Ok(())
 }

@@ -1,5 +1,4 @@
 //! Tests of the memory table.
-use crate::asserts::{check_same, check_that};
 use crate::boxes::{boxed, new_table};
 use entry_list::Entry;
 use mem_table::MemTable;
@@ -15,22 +14,22 @@ fn write(table: &mut MemTable, key: &[u8], value: Option<&[u8]>) -> Result<(), A
 #[test]
 fn the_newest_of_each_key_in_byte_order(rt: HostRuntime) -> Result<(), Fail> {
     let mut table = new_table(rt.alloc())?;
-    check_that(&rt, table.is_empty());
+    assert!(rt; table.is_empty());
     write(&mut table, b"b", Some(b"1"))?;
     write(&mut table, b"ab", Some(b""))?;
     write(&mut table, b"a", Some(b"2"))?;
     write(&mut table, b"ab", None)?;
     write(&mut table, b"b", Some(b"3"))?;
-    check_same(&rt, &table.len(), &3);
-    check_that(&rt, matches!(table.get(b"b"), Some(Some(b"3"))));
-    check_that(&rt, matches!(table.get(b"ab"), Some(None)));
-    check_that(&rt, table.get(b"aa").is_none());
+    assert_eq!(rt; table.len(), 3);
+    assert!(rt; matches!(table.get(b"b"), Some(Some(b"3"))));
+    assert!(rt; matches!(table.get(b"ab"), Some(None)));
+    assert!(rt; table.get(b"aa").is_none());
     let mut cursor = table.cursor(b"aa");
-    check_that(&rt, matches!(cursor.next(), Some((b"ab", None))));
-    check_that(&rt, matches!(cursor.next(), Some((b"b", Some(b"3")))));
-    check_that(&rt, cursor.next().is_none());
+    assert!(rt; matches!(cursor.next(), Some((b"ab", None))));
+    assert!(rt; matches!(cursor.next(), Some((b"b", Some(b"3")))));
+    assert!(rt; cursor.next().is_none());
     table.clear();
-    check_same(&rt, &table.len(), &0);
+    assert_eq!(rt; table.len(), 0);
     Ok(())
 }
 
@@ -41,11 +40,11 @@ fn a_cursor_begins_with_its_bound(rt: HostRuntime) -> Result<(), Fail> {
     write(&mut table, b"b", None)?;
     write(&mut table, b"c", Some(b"3"))?;
     let mut cursor = table.cursor(b"a");
-    check_that(&rt, matches!(cursor.next(), Some((b"a", Some(b"1")))));
+    assert!(rt; matches!(cursor.next(), Some((b"a", Some(b"1")))));
     let mut behind = table.cursor(b"b");
-    check_that(&rt, matches!(behind.next(), Some((b"b", None))));
-    check_that(&rt, matches!(behind.next(), Some((b"c", Some(b"3")))));
-    check_that(&rt, behind.next().is_none());
+    assert!(rt; matches!(behind.next(), Some((b"b", None))));
+    assert!(rt; matches!(behind.next(), Some((b"c", Some(b"3")))));
+    assert!(rt; behind.next().is_none());
     Ok(())
 }
 
@@ -57,14 +56,14 @@ fn filled_with_the_last_of_each_key(rt: HostRuntime) -> Result<(), Fail> {
     log.push(Entry::new(rt.alloc(), b"b", Some(b"3"))?)?;
     log.push(Entry::new(rt.alloc(), b"a", None)?)?;
     let mut table = boxed(rt.alloc(), MemTable::fill(log)?)?;
-    check_same(&rt, &table.len(), &2);
-    check_that(&rt, matches!(table.get(b"a"), Some(None)));
-    check_that(&rt, matches!(table.get(b"b"), Some(Some(b"3"))));
+    assert_eq!(rt; table.len(), 2);
+    assert!(rt; matches!(table.get(b"a"), Some(None)));
+    assert!(rt; matches!(table.get(b"b"), Some(Some(b"3"))));
     write(&mut table, b"ab", Some(b"4"))?;
     let mut cursor = table.cursor(b"");
-    check_that(&rt, matches!(cursor.next(), Some((b"a", None))));
-    check_that(&rt, matches!(cursor.next(), Some((b"ab", Some(b"4")))));
-    check_that(&rt, matches!(cursor.next(), Some((b"b", Some(b"3")))));
+    assert!(rt; matches!(cursor.next(), Some((b"a", None))));
+    assert!(rt; matches!(cursor.next(), Some((b"ab", Some(b"4")))));
+    assert!(rt; matches!(cursor.next(), Some((b"b", Some(b"3")))));
     Ok(())
 }
 
@@ -75,14 +74,14 @@ fn more_keys_than_a_chunk_has_places(rt: HostRuntime) -> Result<(), Fail> {
         let key = (i * 7 % 600).to_be_bytes();
         write(&mut table, &key, Some(b"v"))?;
     }
-    check_same(&rt, &table.len(), &600);
+    assert_eq!(rt; table.len(), 600);
     let mut cursor = table.cursor(b"");
     for i in 0..600u16 {
         let Some((key, _)) = cursor.next() else {
             return Err(Fail::from("too few keys"));
         };
-        check_same(&rt, &key, &i.to_be_bytes().as_slice());
+        assert_eq!(rt; key, i.to_be_bytes().as_slice());
     }
-    check_that(&rt, cursor.next().is_none());
+    assert!(rt; cursor.next().is_none());
     Ok(())
 }
