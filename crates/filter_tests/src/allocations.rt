@@ -5,7 +5,6 @@
 use super::filters::spelled;
 use super::keys::list_of_words;
 use super::tries::boxed;
-use crate::asserts::{check_that, check_that_at};
 use filter_api::{DecodeError, RangeFilter, Settings};
 use filter_model::are_keys;
 use key_base::KeyList;
@@ -74,13 +73,13 @@ fn each_allocation_of_a_filter_may_be_refused(rt: HostRuntime) -> Result<(), Fai
     let filter = built(alloc, &keys)?;
     let image = image_of(alloc, &filter)?;
     let again = read(alloc, &image)?;
-    check_that(&rt, is_asked(&filter));
+    assert!(rt; is_asked(&filter));
     match again {
         Some(again) => {
-            check_that(&rt, is_asked(&again) && image_of(alloc, &again)? == image);
+            assert!(rt; is_asked(&again) && image_of(alloc, &again)? == image);
         }
-        None => check_that_at(&rt, &"no image", false),
+        None => assert!(rt; false, "no image"),
     }
-    check_that_at(&rt, &"the last allocation", is_not_the_last(alloc));
+    assert!(rt; is_not_the_last(alloc), "the last allocation");
     Ok(())
 }

@@ -5,7 +5,6 @@ use super::images::set_byte;
 use super::judge::{Kind, judge};
 use super::keys::{drawn_list, step};
 use super::tries::drawn_trie;
-use crate::asserts::check_that;
 use filter_trie::Trie;
 use key_base::KeyList;
 use std::alloc::{AllocError, Global};
@@ -34,7 +33,7 @@ fn dense_levels(seed: u64) -> u16 {
 fn check_bytes(rt: &impl Abort, alloc: Global, bytes: &[u8]) -> Result<(), AllocError> {
     let found = fault_of(rt, alloc, Kind::Filters, bytes)?;
     let wanted = judge(alloc, bytes, Kind::Filters)?;
-    check_that(rt, found == wanted);
+    assert!(rt; found == wanted);
     Ok(())
 }
 

@@ -5,7 +5,6 @@ use super::judge::Kind;
 use super::keys::{drawn_list, list_of_words, step};
 use super::levels::{byte_keys, pair_keys};
 use super::tries::{base_trie, boxed, drawn_trie, some_trie, trie_with};
-use crate::asserts::check_that;
 use filter_api::{DecodeError, FilterFault};
 use filter_codec::{decode, decode_whole, encode};
 use filter_trie::Trie;
@@ -38,7 +37,7 @@ pub(crate) fn check_image(
     bytes: &[u8],
 ) -> Result<(), AllocError> {
     let image = image_of(alloc, trie)?;
-    check_that(rt, image.as_slice() == bytes);
+    assert!(rt; image.as_slice() == bytes);
     Ok(())
 }
 
@@ -87,7 +86,7 @@ fn are_alike(one: &Trie<Global>, other: &Trie<Global>) -> bool {
 fn check_walks(rt: &impl Abort, one: &Trie<Global>, other: &Trie<Global>, keys: &KeyList) {
     for i in 0..keys.len() {
         let key = keys.get(i);
-        check_that(rt, one.walk(key) == other.walk(key));
+        assert!(rt; one.walk(key) == other.walk(key));
     }
 }
 
@@ -101,7 +100,7 @@ fn check_again(
 ) -> Result<(), Fail> {
     let again = read(alloc, image)?;
     check_image(rt, alloc, &again, image)?;
-    check_that(rt, are_alike(&again, trie));
+    assert!(rt; are_alike(&again, trie));
     check_walks(rt, &again, trie, keys);
     Ok(())
 }
@@ -120,7 +119,7 @@ fn check_row(
     end: &[u8],
 ) -> Result<(), Fail> {
     let image = image_of(alloc, trie)?;
-    check_that(rt, ends_so(image.as_slice(), len, end));
+    assert!(rt; ends_so(image.as_slice(), len, end));
     check_again(rt, alloc, trie, image.as_slice(), keys)
 }
 

@@ -1,6 +1,5 @@
 //! Cursors over tries, against the keys that they were built of.
 
-use crate::asserts::check_that;
 use filter_iter::{FilterCursor, least_of};
 use filter_trie::{Trie, Walk};
 use key_base::{KeyList, MAX_KEY_BYTES};
@@ -71,7 +70,7 @@ fn check_at(
     n: usize,
 ) {
     assert!(rt; n < keys.len() && n < stubs.len());
-    check_that(rt, is_at(cursor, trie, n, keys.get(n), stubs[n]));
+    assert!(rt; is_at(cursor, trie, n, keys.get(n), stubs[n]));
 }
 
 /// Goes on to the last leaf, from the one of the key with this number.
@@ -85,7 +84,7 @@ pub(crate) fn go_on(
 ) {
     for n in from..keys.len() {
         check_at(rt, cursor, trie, keys, stubs, n);
-        check_that(rt, cursor.next() == (n + 1 < keys.len()));
+        assert!(rt; cursor.next() == (n + 1 < keys.len()));
     }
 }
 
@@ -99,7 +98,7 @@ pub(crate) fn go_back(
 ) {
     for n in (0..keys.len()).rev() {
         check_at(rt, cursor, trie, keys, stubs, n);
-        check_that(rt, cursor.prev() == (n > 0));
+        assert!(rt; cursor.prev() == (n > 0));
     }
 }
 
@@ -110,8 +109,8 @@ pub(crate) fn check_next(
     moved: bool,
     leaf: u32,
 ) {
-    check_that(rt, cursor.next() == moved);
-    check_that(rt, cursor.leaf() == leaf);
+    assert!(rt; cursor.next() == moved);
+    assert!(rt; cursor.leaf() == leaf);
 }
 
 /// Goes back: whether there is a leaf before, and which one the cursor is at then.
@@ -121,6 +120,6 @@ pub(crate) fn check_prev(
     moved: bool,
     leaf: u32,
 ) {
-    check_that(rt, cursor.prev() == moved);
-    check_that(rt, cursor.leaf() == leaf);
+    assert!(rt; cursor.prev() == moved);
+    assert!(rt; cursor.leaf() == leaf);
 }

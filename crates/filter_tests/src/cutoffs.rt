@@ -1,5 +1,4 @@
 //! Cutoffs of levels whose counts are told.
-use crate::asserts::check_same;
 use std::test::Fail;
 use trie_levels::{Levels, cutoff};
 
@@ -21,7 +20,7 @@ fn cutoffs_of_levels(rt: HostRuntime) -> Result<(), Fail> {
             assert!(rt; levels.height() < 65_535);
             levels.push(*nodes, *labels)?;
         }
-        check_same(&rt, &cutoff(&levels, ratio), &answer);
+        assert_eq!(rt; cutoff(&levels, ratio), answer);
     }
     Ok(())
 }

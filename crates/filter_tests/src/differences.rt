@@ -3,7 +3,6 @@
 use super::filters::{filter_of, filter_of_words};
 use super::keys::{drawn_list, step};
 use super::tries::{boxed, plain_of};
-use crate::asserts::check_that;
 use filter_api::{RangeFilter, Settings};
 use key_base::KeyList;
 use plain_filter::PlainFilter;
@@ -39,9 +38,9 @@ fn check_words<F: RangeFilter>(
     let filter: F = filter_of_words(alloc, words, widths.0, widths.1, ALL_DENSE)?;
     let other: F = filter_of_words(alloc, others, widths.0, widths.1, ALL_SPARSE)?;
     let found = filter.first_difference(alloc, &other)?;
-    check_that(rt, found == wanted);
+    assert!(rt; found == wanted);
     let back = other.first_difference(alloc, &filter)?;
-    check_that(rt, back == wanted);
+    assert!(rt; back == wanted);
     Ok(())
 }
 
@@ -136,7 +135,7 @@ fn check_pair(
 ) -> Result<(), Fail> {
     let wanted = plain_difference(alloc, keys, others, widths)?;
     let found = surf_difference(alloc, keys, others, widths)?;
-    check_that(rt, found == wanted);
+    assert!(rt; found == wanted);
     Ok(())
 }
 

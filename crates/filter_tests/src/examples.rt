@@ -1,7 +1,6 @@
 //! The sections of a few keys, and what is counted at their places.
 use super::keys::list_of_words;
 use super::tries::trie_of;
-use crate::asserts::check_that;
 use louds_dense::Dense;
 use louds_sparse::Sparse;
 use std::alloc::Global;
@@ -26,9 +25,9 @@ fn check_sparse(
     has_child: u64,
     louds: u64,
 ) {
-    check_that(rt, sparse.labels() == labels);
-    check_that(rt, sparse.has_child() == [has_child].as_slice());
-    check_that(rt, sparse.louds() == [louds].as_slice());
+    assert!(rt; sparse.labels() == labels);
+    assert!(rt; sparse.has_child() == [has_child].as_slice());
+    assert!(rt; sparse.louds() == [louds].as_slice());
 }
 
 #[test]
@@ -66,21 +65,15 @@ fn a_and_ab_are_spelled_by_four_dense_bits(rt: HostRuntime) -> Result<(), Fail> 
 }
 
 fn check_dense(rt: &impl Abort, dense: &Dense<Global>) {
-    check_that(
-        rt,
-        dense.labels() == [0, 0x02 << 32, 0, 0, 0, 0x04 << 32, 0, 0].as_slice(),
-    );
-    check_that(
-        rt,
-        dense.has_child() == [0, 0x02 << 32, 0, 0, 0, 0, 0, 0].as_slice(),
-    );
-    check_that(rt, dense.prefix() == [0x02].as_slice());
+    assert!(rt; dense.labels() == [0, 0x02 << 32, 0, 0, 0, 0x04 << 32, 0, 0].as_slice());
+    assert!(rt; dense.has_child() == [0, 0x02 << 32, 0, 0, 0, 0, 0, 0].as_slice());
+    assert!(rt; dense.prefix() == [0x02].as_slice());
 }
 
 fn check_slots(rt: &impl Abort, dense: &Dense<Global>) {
     for (place, slot) in [(97, 0), (256, 1), (354, 1), (355, 2), (512, 2)] {
         assert!(rt; place <= dense.place_count());
-        check_that(rt, dense.leaf_slot(place) == slot);
+        assert!(rt; dense.leaf_slot(place) == slot);
     }
 }
 
@@ -111,8 +104,8 @@ fn check_places(rt: &impl Abort, dense: &Dense<Global>) {
         (0x500, 5, 5),
     ] {
         assert!(rt; place <= dense.place_count());
-        check_that(rt, dense.leaf_slot(place) == slot);
-        check_that(rt, dense.first_below(place) == below);
+        assert!(rt; dense.leaf_slot(place) == slot);
+        assert!(rt; dense.first_below(place) == below);
     }
 }
 
@@ -125,8 +118,8 @@ fn a_half_without_nodes_has_the_root_behind_it(rt: HostRuntime) -> Result<(), Fa
 }
 
 fn check_no_nodes(rt: &impl Abort, dense: &Dense<Global>) {
-    check_that(rt, !dense.has_node(0));
-    check_that(rt, dense.place_count() == 0);
-    check_that(rt, dense.leaf_slot(0) == 0);
-    check_that(rt, dense.first_below(0) == 1);
+    assert!(rt; !dense.has_node(0));
+    assert!(rt; dense.place_count() == 0);
+    assert!(rt; dense.leaf_slot(0) == 0);
+    assert!(rt; dense.first_below(0) == 1);
 }

@@ -1,7 +1,6 @@
 //! Plain and succinct filters of a few words.
 
 use super::filters::{check_between, check_least, filter_of_words};
-use crate::asserts::check_that;
 use filter_api::RangeFilter;
 use plain_filter::PlainFilter;
 use std::alloc::Global;
@@ -17,10 +16,10 @@ const RATIOS: [u16; 2] = [0, 65_535];
 // ---- far to toy
 
 fn check_points<F: RangeFilter>(rt: &impl Abort, filter: &F) {
-    check_that(rt, filter.may_hold(b"fasten") && !filter.may_hold(b"fa"));
-    check_that(rt, filter.seek(b"fat") == Some(2));
-    check_that(rt, filter.seek(b"u").is_none());
-    check_that(rt, filter.leaves() == 5 && filter.widths() == (0, 0));
+    assert!(rt; filter.may_hold(b"fasten") && !filter.may_hold(b"fa"));
+    assert!(rt; filter.seek(b"fat") == Some(2));
+    assert!(rt; filter.seek(b"u").is_none());
+    assert!(rt; filter.leaves() == 5 && filter.widths() == (0, 0));
 }
 
 fn check_ranges<F: RangeFilter>(rt: &impl Abort, filter: &F) {
@@ -71,7 +70,7 @@ fn real_bits_keep_ranges_out(rt: HostRuntime) -> Result<(), Fail> {
 // ---- hash bits
 
 fn check_hash<F: RangeFilter>(rt: &impl Abort, filter: &F) {
-    check_that(rt, filter.may_hold(b"fast") && !filter.may_hold(b"fasten"));
+    assert!(rt; filter.may_hold(b"fast") && !filter.may_hold(b"fasten"));
 }
 
 fn check_hash_bits<F: RangeFilter>(rt: &impl Abort, alloc: Global, ratio: u16) -> Result<(), Fail> {
@@ -92,11 +91,8 @@ fn hash_bits_keep_keys_out(rt: HostRuntime) -> Result<(), Fail> {
 // ---- keys that end, and a key alone
 
 fn check_end<F: RangeFilter>(rt: &impl Abort, filter: &F) {
-    check_that(
-        rt,
-        filter.may_hold(b"\x61") && filter.may_hold(b"\x61\xFF\x00"),
-    );
-    check_that(rt, !filter.may_hold(b"\x61\x00") && !filter.may_hold(b""));
+    assert!(rt; filter.may_hold(b"\x61") && filter.may_hold(b"\x61\xFF\x00"));
+    assert!(rt; !filter.may_hold(b"\x61\x00") && !filter.may_hold(b""));
 }
 
 fn check_ends<F: RangeFilter>(rt: &impl Abort, alloc: Global, ratio: u16) -> Result<(), Fail> {
@@ -115,7 +111,7 @@ fn a_key_that_others_go_on_from_fits_itself_alone(rt: HostRuntime) -> Result<(),
 }
 
 fn check_first_byte<F: RangeFilter>(rt: &impl Abort, filter: &F) {
-    check_that(rt, filter.may_hold(b"zoo") && !filter.may_hold(b"y"));
+    assert!(rt; filter.may_hold(b"zoo") && !filter.may_hold(b"y"));
 }
 
 fn check_zebra<F: RangeFilter>(rt: &impl Abort, alloc: Global, ratio: u16) -> Result<(), Fail> {

@@ -3,7 +3,6 @@
 use super::filters::{filter_of_words, is_refused, spelled};
 use super::images::{SPARSE, dense_image};
 use super::tries::boxed;
-use crate::asserts::check_that;
 use plain_filter::PlainFilter;
 use std::alloc::Global;
 use std::process::Abort;
@@ -15,8 +14,8 @@ fn check_image(rt: &impl Abort, alloc: Global, ratio: u16, image: &[u8]) -> Resu
     let filter: SurfFilter<Global> = filter_of_words(alloc, &[b"a", b"ab"], 0, 0, ratio)?;
     let filter = boxed(alloc, filter)?;
     let bytes = spelled(alloc, &*filter)?;
-    check_that(rt, bytes.as_slice() == image);
-    check_that(rt, is_refused::<PlainFilter>(alloc, image, 0, 1));
+    assert!(rt; bytes.as_slice() == image);
+    assert!(rt; is_refused::<PlainFilter>(alloc, image, 0, 1));
     Ok(())
 }
 
@@ -37,10 +36,7 @@ fn check_plain(
 ) -> Result<(), Fail> {
     let filter: PlainFilter = filter_of_words(alloc, words, 0, 0, 64)?;
     let bytes = spelled(alloc, &filter)?;
-    check_that(
-        rt,
-        is_refused::<SurfFilter<Global>>(alloc, bytes.as_slice(), place, rule),
-    );
+    assert!(rt; is_refused::<SurfFilter<Global>>(alloc, bytes.as_slice(), place, rule));
     Ok(())
 }
 

@@ -4,7 +4,6 @@ use super::bounds::bounds_near;
 use super::filters::{between, filter_of, least, spelled};
 use super::keys::{drawn_list, step};
 use super::tries::{boxed, plain_of, stubs_of};
-use crate::asserts::check_that;
 use filter_api::{RangeFilter, Settings};
 use key_base::KeyList;
 use plain_filter::PlainFilter;
@@ -31,7 +30,7 @@ fn check_range(
     lo: &[u8],
     hi: &[u8],
 ) {
-    check_that(rt, between(filter, lo, hi) == between(plain, lo, hi));
+    assert!(rt; between(filter, lo, hi) == between(plain, lo, hi));
 }
 
 // A bound as a key, and with each other one as a range.
@@ -42,8 +41,8 @@ fn check_bound(
     lo: &[u8],
     bounds: &[Vec<u8>],
 ) {
-    check_that(rt, filter.may_hold(lo) == plain.may_hold(lo));
-    check_that(rt, filter.seek(lo) == plain.seek(lo));
+    assert!(rt; filter.may_hold(lo) == plain.may_hold(lo));
+    assert!(rt; filter.seek(lo) == plain.seek(lo));
     for hi in bounds {
         check_range(rt, filter, plain, lo, hi.as_slice());
     }
@@ -69,7 +68,7 @@ fn check_leaf(
 ) -> Result<(), Fail> {
     let found = least(alloc, filter, n)?;
     let wanted = least(alloc, plain, n)?;
-    check_that(rt, found.as_slice() == wanted.as_slice());
+    assert!(rt; found.as_slice() == wanted.as_slice());
     Ok(())
 }
 
@@ -79,10 +78,7 @@ fn check_leaves(
     filter: &impl RangeFilter,
     plain: &PlainFilter,
 ) -> Result<(), Fail> {
-    check_that(
-        rt,
-        filter.leaves() == plain.leaves() && filter.widths() == plain.widths(),
-    );
+    assert!(rt; filter.leaves() == plain.leaves() && filter.widths() == plain.widths());
     for n in 0..plain.leaves() {
         check_leaf(rt, alloc, filter, plain, n)?;
     }

@@ -1,7 +1,6 @@
 //! Filters of either kind, through the interface of every filter: made of keys, asked and spelled.
 
 use super::keys::list_of_words;
-use crate::asserts::check_that;
 use filter_api::{DecodeError, FilterFault, RangeFilter, Settings};
 use filter_model::are_keys;
 use key_base::{KeyList, compare};
@@ -91,7 +90,7 @@ pub(crate) fn check_between<F: RangeFilter>(
     hi: &[u8],
     wanted: (bool, u32),
 ) {
-    check_that(rt, between(filter, lo, hi) == wanted);
+    assert!(rt; between(filter, lo, hi) == wanted);
 }
 
 /// The least string of leaf `n`.
@@ -103,6 +102,6 @@ pub(crate) fn check_least<F: RangeFilter>(
     wanted: &[u8],
 ) -> Result<(), AllocError> {
     let found = least(alloc, filter, n)?;
-    check_that(rt, found.as_slice() == wanted);
+    assert!(rt; found.as_slice() == wanted);
     Ok(())
 }

@@ -3,7 +3,6 @@ use super::keys::{some_keys, step};
 use super::plain::{END, Plain};
 use super::sections::{check_dense_sections, check_sparse_sections};
 use super::tries::boxed;
-use crate::asserts::check_that;
 use louds_dense::{Dense, DenseBuilder};
 use louds_sparse::{Sparse, SparseBuilder};
 use std::alloc::{AllocError, Global};
@@ -35,8 +34,8 @@ fn add_dense(
 ) -> Result<(), AllocError> {
     for node in 0..cut {
         let branches = plain.bytes(alloc, node)?;
-        check_that(rt, are_rising(&branches));
-        check_that(rt, builder.room_left() > 0);
+        assert!(rt; are_rising(&branches));
+        assert!(rt; builder.room_left() > 0);
         builder.node(plain.ends(node), &branches);
     }
     Ok(())
@@ -62,7 +61,7 @@ fn add_sparse(
 ) -> Result<(), AllocError> {
     for node in cut..plain.node_count() {
         let branches = plain.bytes(alloc, node)?;
-        check_that(rt, are_rising(&branches));
+        assert!(rt; are_rising(&branches));
         assert!(rt; branches.len() < builder.room_left());
         builder.node(plain.ends(node), &branches);
     }
@@ -111,10 +110,10 @@ fn check_dense_place(rt: &impl Abort, dense: &Dense<Global>, plain: &Plain, node
         Some(branch) => plain.child(branch as usize),
         None => None,
     };
-    check_that(rt, dense.byte_at(place) == byte);
-    check_that(rt, dense.child(place) == child);
-    check_that(rt, dense.leaf_slot(place) == plain.leaf_slot(before));
-    check_that(rt, dense.first_below(place) == plain.first_below(before));
+    assert!(rt; dense.byte_at(place) == byte);
+    assert!(rt; dense.child(place) == child);
+    assert!(rt; dense.leaf_slot(place) == plain.leaf_slot(before));
+    assert!(rt; dense.first_below(place) == plain.first_below(before));
 }
 
 fn check_dense_byte(rt: &impl Abort, dense: &Dense<Global>, plain: &Plain, node: usize, byte: u16) {
@@ -122,30 +121,21 @@ fn check_dense_byte(rt: &impl Abort, dense: &Dense<Global>, plain: &Plain, node:
         return;
     }
     let number = node as u64;
-    check_that(rt, dense.has_node(number));
+    assert!(rt; dense.has_node(number));
     if let Ok(byte) = u8::try_from(byte) {
         let branch = plain.branch(node, u16::from(byte));
-        check_that(
-            rt,
-            dense.branch(number, byte) == dense_place(plain, node, branch),
-        );
+        assert!(rt; dense.branch(number, byte) == dense_place(plain, node, branch));
         check_dense_place(rt, dense, plain, node, byte);
     }
     let next = plain.next_branch(node, byte);
-    check_that(
-        rt,
-        dense.next_branch(number, byte) == dense_place(plain, node, next),
-    );
+    assert!(rt; dense.next_branch(number, byte) == dense_place(plain, node, next));
     let prev = plain.prev_branch(node, byte);
-    check_that(
-        rt,
-        dense.prev_branch(number, byte) == dense_place(plain, node, prev),
-    );
+    assert!(rt; dense.prev_branch(number, byte) == dense_place(plain, node, prev));
 }
 
 fn check_dense_node(rt: &impl Abort, dense: &Dense<Global>, plain: &Plain, node: usize) {
-    check_that(rt, dense.has_node(node as u64));
-    check_that(rt, dense.prefix_slot(node as u64) == plain.end_slot(node));
+    assert!(rt; dense.has_node(node as u64));
+    assert!(rt; dense.prefix_slot(node as u64) == plain.end_slot(node));
     for letter in LETTERS {
         let byte = u16::from(letter);
         check_dense_byte(rt, dense, plain, node, byte.saturating_sub(1));
@@ -163,13 +153,10 @@ fn check_sparse_place(
 ) {
     let number = place.saturating_sub(first) as u64;
     assert!(rt; number < sparse.place_count());
-    check_that(
-        rt,
-        u16::from(sparse.byte_at(number)) == plain.letter(place).min(0xFF),
-    );
-    check_that(rt, sparse.child(number) == plain.child(place));
-    check_that(rt, sparse.leaf_slot(number) == plain.leaf_slot(place));
-    check_that(rt, sparse.first_below(number) == plain.first_below(place));
+    assert!(rt; u16::from(sparse.byte_at(number)) == plain.letter(place).min(0xFF));
+    assert!(rt; sparse.child(number) == plain.child(place));
+    assert!(rt; sparse.leaf_slot(number) == plain.leaf_slot(place));
+    assert!(rt; sparse.first_below(number) == plain.first_below(place));
 }
 
 // The place of a half that has the places from `first` on.
@@ -192,24 +179,15 @@ fn check_sparse_byte(
         return;
     }
     let number = node as u64;
-    check_that(rt, sparse.has_node(number));
+    assert!(rt; sparse.has_node(number));
     if let Ok(byte) = u8::try_from(byte) {
         let branch = plain.branch(node, u16::from(byte));
-        check_that(
-            rt,
-            sparse.branch(number, byte) == sparse_place(branch, first),
-        );
+        assert!(rt; sparse.branch(number, byte) == sparse_place(branch, first));
     }
     let next = plain.next_branch(node, byte);
-    check_that(
-        rt,
-        sparse.next_branch(number, byte) == sparse_place(next, first),
-    );
+    assert!(rt; sparse.next_branch(number, byte) == sparse_place(next, first));
     let prev = plain.prev_branch(node, byte);
-    check_that(
-        rt,
-        sparse.prev_branch(number, byte) == sparse_place(prev, first),
-    );
+    assert!(rt; sparse.prev_branch(number, byte) == sparse_place(prev, first));
 }
 
 fn check_sparse_node(
@@ -220,13 +198,13 @@ fn check_sparse_node(
     node: usize,
 ) {
     let number = node as u64;
-    check_that(rt, sparse.has_node(number));
+    assert!(rt; sparse.has_node(number));
     let (from, to) = plain.range(node);
     let from = from.saturating_sub(first) as u64;
     let to = to.saturating_sub(first) as u64;
-    check_that(rt, sparse.first_place(number) == from);
-    check_that(rt, sparse.node_range(number) == (from, to));
-    check_that(rt, sparse.prefix_slot(number) == plain.end_slot(node));
+    assert!(rt; sparse.first_place(number) == from);
+    assert!(rt; sparse.node_range(number) == (from, to));
+    assert!(rt; sparse.prefix_slot(number) == plain.end_slot(node));
     for letter in LETTERS {
         let byte = u16::from(letter);
         check_sparse_byte(rt, sparse, plain, first, node, byte.saturating_sub(1));
@@ -241,8 +219,8 @@ fn check_dense(rt: &impl Abort, dense: &Dense<Global>, plain: &Plain, cut: usize
     }
     let first = plain.range(cut).0;
     let behind = dense.place_count();
-    check_that(rt, dense.leaf_slot(behind) == plain.leaf_slot(first));
-    check_that(rt, dense.first_below(behind) == plain.first_below(first));
+    assert!(rt; dense.leaf_slot(behind) == plain.leaf_slot(first));
+    assert!(rt; dense.first_below(behind) == plain.first_below(first));
 }
 
 fn check_sparse_nodes(rt: &impl Abort, sparse: &Sparse<Global>, plain: &Plain, cut: usize) {
@@ -250,10 +228,7 @@ fn check_sparse_nodes(rt: &impl Abort, sparse: &Sparse<Global>, plain: &Plain, c
     for node in cut..plain.node_count() {
         check_sparse_node(rt, sparse, plain, first, node);
     }
-    check_that(
-        rt,
-        sparse.node_count() == plain.node_count().saturating_sub(cut) as u64,
-    );
+    assert!(rt; sparse.node_count() == plain.node_count().saturating_sub(cut) as u64);
 }
 
 fn check_sparse_places(rt: &impl Abort, sparse: &Sparse<Global>, plain: &Plain, cut: usize) {
@@ -261,10 +236,7 @@ fn check_sparse_places(rt: &impl Abort, sparse: &Sparse<Global>, plain: &Plain, 
     for place in first..plain.place_count() {
         check_sparse_place(rt, sparse, plain, first, place);
     }
-    check_that(
-        rt,
-        sparse.place_count() == plain.place_count().saturating_sub(first) as u64,
-    );
+    assert!(rt; sparse.place_count() == plain.place_count().saturating_sub(first) as u64);
 }
 
 fn check_halves(
@@ -294,7 +266,7 @@ fn check_cuts(rt: &impl Abort, alloc: Global, plain: &Plain) -> Result<(), Alloc
         }
         cut = plain.first_below(plain.range(cut).0) as usize;
     }
-    check_that(rt, cut == plain.node_count());
+    assert!(rt; cut == plain.node_count());
     Ok(())
 }
 

@@ -5,7 +5,6 @@ use super::filters::{filter_of, spelled};
 use super::levels::pair_keys;
 use super::sums::push_pair;
 use super::tries::{base_trie, boxed};
-use crate::asserts::check_that;
 use filter_api::Settings;
 use filter_iter::{FilterCursor, least_of};
 use filter_trie::Trie;
@@ -33,19 +32,16 @@ fn image(alloc: Global, hash_bits: u8, real_bits: u8) -> Result<Vec<u8>, Fail> {
 }
 
 fn check_points<A: Allocator>(rt: &impl Abort, filter: &SurfFilter<A>) {
-    check_that(rt, filter.leaves() == 65_536);
-    check_that(
-        rt,
-        filter.may_hold(b"\x61\xFF") && filter.may_hold(b"\x61\xFFb"),
-    );
-    check_that(rt, !filter.may_hold(b"\x61") && !filter.may_hold(b""));
+    assert!(rt; filter.leaves() == 65_536);
+    assert!(rt; filter.may_hold(b"\x61\xFF") && filter.may_hold(b"\x61\xFFb"));
+    assert!(rt; !filter.may_hold(b"\x61") && !filter.may_hold(b""));
 }
 
 fn check_counts<A: Allocator>(rt: &impl Abort, filter: &SurfFilter<A>) {
-    check_that(rt, filter.seek(b"\x61") == Some(0x6100));
-    check_that(rt, filter.seek(b"\xFF\xFF\x00") == Some(0xFFFF));
-    check_that(rt, filter.tally(b"\x61\x00", b"\x61\xFF") == 256);
-    check_that(rt, filter.tally(b"", b"\xFF\xFF") == 65_536);
+    assert!(rt; filter.seek(b"\x61") == Some(0x6100));
+    assert!(rt; filter.seek(b"\xFF\xFF\x00") == Some(0xFFFF));
+    assert!(rt; filter.tally(b"\x61\x00", b"\x61\xFF") == 256);
+    assert!(rt; filter.tally(b"", b"\xFF\xFF") == 65_536);
 }
 
 fn check_filter<A: Allocator>(rt: &impl Abort, filter: &SurfFilter<A>) {
@@ -64,10 +60,7 @@ fn check_cursor<A: Allocator>(
     };
     let mut least = Vec::new(heap);
     cursor.least(&mut least)?;
-    check_that(
-        rt,
-        cursor.leaf() == 0x6100 && least.as_slice() == b"\x61\x00".as_slice(),
-    );
+    assert!(rt; cursor.leaf() == 0x6100 && least.as_slice() == b"\x61\x00".as_slice());
     Ok(())
 }
 
@@ -83,7 +76,7 @@ fn check_least<A: Allocator>(
             filter.least_of(n, &mut least)?;
         }
     }
-    check_that(rt, least.as_slice() == b"\x61\x00\xFF\xFF".as_slice());
+    assert!(rt; least.as_slice() == b"\x61\x00\xFF\xFF".as_slice());
     Ok(())
 }
 
@@ -95,16 +88,13 @@ const ROUNDED_BITS: u64 = 14 * 16 * 8;
 fn check_memory<A: Allocator>(rt: &impl Abort, heap: &LocalHeap, filter: &SurfFilter<A>) {
     let said = filter.memory_bits();
     let held = (heap.used() as u64).saturating_mul(8);
-    check_that(
-        rt,
-        said <= held && held <= said.saturating_add(ROUNDED_BITS),
-    );
+    assert!(rt; said <= held && held <= said.saturating_add(ROUNDED_BITS));
 }
 
 fn check_read(rt: &impl Abort, heap: &LocalHeap, image: &[u8]) -> Result<(), Fail> {
     let filter = SurfFilter::decode_in(heap, image)?;
     check_filter(rt, &filter);
-    check_that(rt, filter.image_bytes() == image.len() as u64);
+    assert!(rt; filter.image_bytes() == image.len() as u64);
     check_memory(rt, heap, &filter);
     check_cursor(rt, heap, filter.trie())?;
     check_least(rt, heap, &filter)
@@ -119,7 +109,7 @@ fn all_keys_of_two_bytes_fit_a_small_heap(rt: HostRuntime) -> Result<(), Fail> {
 
 fn check_suffixes(rt: &impl Abort, heap: &LocalHeap, image: &[u8]) -> Result<(), Fail> {
     let filter = SurfFilter::decode_in(heap, image)?;
-    check_that(rt, filter.widths() == (2, 1));
+    assert!(rt; filter.widths() == (2, 1));
     check_memory(rt, heap, &filter);
     Ok(())
 }
@@ -150,14 +140,8 @@ fn check_long_way(rt: &impl Abort, heap: &LocalHeap, trie: &Trie<Global>) -> Res
     let Some(mut cursor) = FilterCursor::start(heap, trie, b"k")? else {
         return Err(Fail::from("no leaf"));
     };
-    check_that(
-        rt,
-        heap.used().saturating_sub(before) >= SHARED.saturating_mul(8),
-    );
-    check_that(
-        rt,
-        cursor.leaf() == 0 && cursor.next() && cursor.leaf() == 1,
-    );
+    assert!(rt; heap.used().saturating_sub(before) >= SHARED.saturating_mul(8));
+    assert!(rt; cursor.leaf() == 0 && cursor.next() && cursor.leaf() == 1);
     Ok(())
 }
 
@@ -166,7 +150,7 @@ fn a_long_way_takes_memory_and_gives_it_back(rt: HostRuntime) -> Result<(), Fail
     let trie = high_trie(rt.alloc())?;
     let heap = LocalHeap::new(rt.alloc(), HEAP_BYTES)?;
     check_long_way(&rt, &heap, &trie)?;
-    check_that(&rt, heap.used() == 0);
+    assert!(rt; heap.used() == 0);
     Ok(())
 }
 
@@ -183,9 +167,9 @@ fn least_behind(heap: LocalHeap, trie: &Trie<Global>) -> Result<(bool, Vec<u8, L
 
 // A start fails where a leaf is sought, and says that there is none past the last one all the same.
 fn check_no_room(rt: &impl Abort, heap: &LocalHeap, trie: &Trie<Global>) -> Result<(), Fail> {
-    check_that(rt, FilterCursor::start(heap, trie, b"k").is_err());
-    check_that(rt, FilterCursor::start(heap, trie, b"l")?.is_none());
-    check_that(rt, heap.used() == 0);
+    assert!(rt; FilterCursor::start(heap, trie, b"k").is_err());
+    assert!(rt; FilterCursor::start(heap, trie, b"l")?.is_none());
+    assert!(rt; heap.used() == 0);
     Ok(())
 }
 
@@ -200,12 +184,9 @@ fn a_long_way_may_find_no_memory(rt: HostRuntime) -> Result<(), Fail> {
 fn a_least_string_takes_its_way_of_the_heap_of_its_bytes(rt: HostRuntime) -> Result<(), Fail> {
     let trie = high_trie(rt.alloc())?;
     let (done, least) = least_behind(LocalHeap::new(rt.alloc(), HEAP_BYTES)?, &trie)?;
-    check_that(
-        &rt,
-        done && least.len() == SHARED + 3 && least.starts_with(b"xkm"),
-    );
+    assert!(rt; done && least.len() == SHARED + 3 && least.starts_with(b"xkm"));
     let (done, least) = least_behind(LocalHeap::new(rt.alloc(), SMALL_HEAP_BYTES)?, &trie)?;
-    check_that(&rt, !done && least.as_slice() == b"x".as_slice());
+    assert!(rt; !done && least.as_slice() == b"x".as_slice());
     Ok(())
 }
 
@@ -221,6 +202,6 @@ fn stubs_in(heap: &LocalHeap) -> Result<usize, AllocError> {
 #[test]
 fn a_list_of_their_stubs_does_not(rt: HostRuntime) -> Result<(), Fail> {
     let heap = LocalHeap::new(rt.alloc(), HEAP_BYTES)?;
-    check_that(&rt, stubs_in(&heap).is_err());
+    assert!(rt; stubs_in(&heap).is_err());
     Ok(())
 }

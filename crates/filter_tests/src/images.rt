@@ -2,7 +2,6 @@
 
 use super::codec::{check_image, fault_of, read};
 use super::judge::Kind;
-use crate::asserts::check_that;
 use filter_api::FilterFault;
 use filter_trie::{Trie, Walk};
 use std::alloc::{AllocError, Global};
@@ -112,7 +111,7 @@ pub(crate) fn check_fault(
     rule: u8,
 ) -> Result<(), AllocError> {
     let found = fault_of(rt, alloc, kind, bytes)?;
-    check_that(rt, found == Some(FilterFault { place, rule }));
+    assert!(rt; found == Some(FilterFault { place, rule }));
     Ok(())
 }
 
@@ -175,9 +174,9 @@ fn fewer_bytes_and_one_more_are_refused(rt: HostRuntime) -> Result<(), Fail> {
 }
 
 fn check_walks(rt: &impl Abort, trie: &Trie<Global>, first: &[u8], second: &[u8], other: &[u8]) {
-    check_that(rt, trie.walk(first) == Walk::Leaf(0));
-    check_that(rt, trie.walk(second) == Walk::Leaf(1));
-    check_that(rt, trie.walk(other) == Walk::Miss);
+    assert!(rt; trie.walk(first) == Walk::Leaf(0));
+    assert!(rt; trie.walk(second) == Walk::Leaf(1));
+    assert!(rt; trie.walk(other) == Walk::Miss);
 }
 
 // An image is read as a trie that two words walk to the first two leaves of, and another misses, and that has this image

@@ -1,7 +1,6 @@
 //! The spelling of plain filters.
 
 use super::filters::{filter_of_words, is_refused, spelled};
-use crate::asserts::check_that;
 use filter_api::RangeFilter;
 use plain_filter::PlainFilter;
 use std::alloc::Global;
@@ -22,7 +21,7 @@ fn check_spelling(
 ) -> Result<(), Fail> {
     let filter: PlainFilter = filter_of_words(alloc, words, hash_bits, 0, 64)?;
     let bytes = spelled(alloc, &filter)?;
-    check_that(rt, bytes.as_slice() == wanted);
+    assert!(rt; bytes.as_slice() == wanted);
     Ok(())
 }
 
@@ -39,7 +38,7 @@ fn check_changed(rt: &impl Abort, alloc: Global, place: usize, byte: u8) {
     if place < other.len() {
         other[place] = byte;
     }
-    check_that(rt, is_refused::<PlainFilter>(alloc, &other, 0, 1));
+    assert!(rt; is_refused::<PlainFilter>(alloc, &other, 0, 1));
 }
 
 // An end that is neither 0 nor 1, stubs that do not rise, a magic that is another, a byte too few.
@@ -55,15 +54,15 @@ fn changed_spellings_are_not_read(rt: HostRuntime) {
 #[test]
 fn a_leaf_that_ends_has_no_real_bits(rt: HostRuntime) {
     let mut other = SPELLED;
-    check_that(&rt, PlainFilter::decode(rt.alloc(), &other).is_ok());
+    assert!(rt; PlainFilter::decode(rt.alloc(), &other).is_ok());
     other[5] = 8;
-    check_that(&rt, PlainFilter::decode(rt.alloc(), &other).is_ok());
+    assert!(rt; PlainFilter::decode(rt.alloc(), &other).is_ok());
     other[18] = 1;
-    check_that(&rt, is_refused::<PlainFilter>(rt.alloc(), &other, 0, 1));
+    assert!(rt; is_refused::<PlainFilter>(rt.alloc(), &other, 0, 1));
 }
 
 #[test]
 fn one_leaf_of_two_bytes_is_not_read(rt: HostRuntime) {
     let lone = *b"SURP\x00\x00\x01\x00\x00\x00\x02\x00ab\x00\x00\x00\x00\x00\x00\x00\x00\x00";
-    check_that(&rt, is_refused::<PlainFilter>(rt.alloc(), &lone, 0, 1));
+    assert!(rt; is_refused::<PlainFilter>(rt.alloc(), &lone, 0, 1));
 }

@@ -1,6 +1,5 @@
 //! Lists of keys and their stubs, lists of leaves, and settings.
 use super::keys::list_of_words;
-use crate::asserts::{check_same, check_that};
 use filter_api::{BadSettings, Field, Leaf, LeafList, Settings};
 use filter_model::are_keys;
 use key_truncate::truncate;
@@ -16,7 +15,7 @@ fn keys_rise_and_are_not_empty(rt: HostRuntime) -> Result<(), Fail> {
         (&[b""], false),
     ];
     for (words, wanted) in rows {
-        check_same(&rt, &are_keys(&list_of_words(rt.alloc(), words)?), &wanted);
+        assert_eq!(rt; are_keys(&list_of_words(rt.alloc(), words)?), wanted);
     }
     Ok(())
 }
@@ -34,14 +33,13 @@ fn stubs_tell_keys_apart(rt: HostRuntime) -> Result<(), Fail> {
     ];
     for (words, stubs) in rows {
         let keys = list_of_words(rt.alloc(), words)?;
-        check_that(&rt, are_keys(&keys));
+        assert!(rt; are_keys(&keys));
         let found = truncate(rt.alloc(), &keys)?;
-        check_that(
-            &rt,
+        assert!(rt;
             found
                 .iter()
                 .map(|stub| (stub.len, stub.ends))
-                .eq(stubs.iter().copied()),
+                .eq(stubs.iter().copied())
         );
     }
     Ok(())
@@ -50,7 +48,7 @@ fn stubs_tell_keys_apart(rt: HostRuntime) -> Result<(), Fail> {
 #[test]
 fn leaves_stand_in_the_order_of_pushing(rt: HostRuntime) -> Result<(), Fail> {
     let mut leaves = LeafList::with_capacity(rt.alloc(), 1)?;
-    check_that(&rt, leaves.is_empty());
+    assert!(rt; leaves.is_empty());
     leaves.push(Leaf {
         stub: b"b".to_vec(rt.alloc())?,
         ends: true,
@@ -58,8 +56,8 @@ fn leaves_stand_in_the_order_of_pushing(rt: HostRuntime) -> Result<(), Fail> {
         real: 2,
     })?;
     assert!(rt; leaves.len() == 1);
-    check_that(&rt, leaves.get(0).ends);
-    check_same(&rt, &leaves.get(0).stub.as_slice(), &b"b".as_slice());
+    assert!(rt; leaves.get(0).ends);
+    assert_eq!(rt; leaves.get(0).stub.as_slice(), b"b".as_slice());
     Ok(())
 }
 
@@ -76,6 +74,6 @@ fn the_first_field_out_of_range_is_named(rt: HostRuntime) {
             real_bits,
             ratio: 64,
         };
-        check_same(&rt, &settings.check(), &wanted);
+        assert_eq!(rt; settings.check(), wanted);
     }
 }

@@ -5,7 +5,6 @@ ghost use Rattle.filter_model.specs.Keys.{IsKeyList};
 ghost use Rattle.filter_model.specs.Leaves.{hash_bits_of as hash_of, leaves_of};
 ghost use Rattle.filter_model.specs.Strings.{bits};
 
-use crate::asserts::check_that;
 use filter_api::{Leaf, LeafList};
 use filter_model::are_keys;
 use key_base::KeyList;
@@ -59,7 +58,7 @@ fn plan_of_keys(alloc: Global, keys: &KeyList) -> Result<Levels, AllocError>
 }
 
 fn levels_of(rt: &impl Abort, alloc: Global, keys: &KeyList) -> Result<Levels, AllocError> {
-    check_that(rt, are_keys(keys));
+    assert!(rt; are_keys(keys));
     plan_of_keys(alloc, keys)
 }
 
@@ -92,7 +91,7 @@ fn levels_of_keys(rt: HostRuntime) -> Result<(), Fail> {
             keys.push(word)?;
         }
         let levels = levels_of(&rt, rt.alloc(), &keys)?;
-        check_that(&rt, are_counts(&levels, counts));
+        assert!(rt; are_counts(&levels, counts));
     }
     Ok(())
 }
@@ -124,16 +123,16 @@ pub(crate) fn pair_keys(alloc: Global, count: u16) -> Result<KeyList, AllocError
 #[test]
 fn all_keys_of_one_byte(rt: HostRuntime) -> Result<(), Fail> {
     let levels = levels_of(&rt, rt.alloc(), &byte_keys(rt.alloc(), 256)?)?;
-    check_that(&rt, are_counts(&levels, &[(1, 256)]));
-    check_that(&rt, cutoff(&levels, 64) == 0);
-    check_that(&rt, cutoff(&levels, 0) == 1);
+    assert!(rt; are_counts(&levels, &[(1, 256)]));
+    assert!(rt; cutoff(&levels, 64) == 0);
+    assert!(rt; cutoff(&levels, 0) == 1);
     Ok(())
 }
 
 #[test]
 fn all_keys_of_two_bytes(rt: HostRuntime) -> Result<(), Fail> {
     let levels = levels_of(&rt, rt.alloc(), &pair_keys(rt.alloc(), 256)?)?;
-    check_that(&rt, are_counts(&levels, &[(1, 256), (256, 65_536)]));
-    check_that(&rt, cutoff(&levels, 64) == 1);
+    assert!(rt; are_counts(&levels, &[(1, 256), (256, 65_536)]));
+    assert!(rt; cutoff(&levels, 64) == 1);
     Ok(())
 }

@@ -9,8 +9,6 @@
 #[cfg(test)]
 mod allocations;
 #[cfg(test)]
-mod asserts;
-#[cfg(test)]
 mod bits;
 #[cfg(test)]
 mod bounds;

@@ -8,7 +8,6 @@ use super::keys::{list_of, list_of_words, some_keys, step};
 use super::plain::{END, Plain};
 use super::tries::{has_node, trie_of};
 use super::walks::counted;
-use crate::asserts::check_that;
 use filter_trie::{Place, Trie, Walk};
 use key_base::KeyList;
 use std::alloc::{AllocError, Global};
@@ -72,15 +71,12 @@ fn check_place(
 )
     requires { IsTaken trie.now place }
 {
-    check_that(rt, is_same_place(trie, plain, Some(place), number));
+    assert!(rt; is_same_place(trie, plain, Some(place), number));
     if let Some(number) = number {
         let number = number as usize;
-        check_that(
-            rt,
-            u16::from(trie.byte_at(place)) == plain.letter(number).min(0xFF),
-        );
-        check_that(rt, trie.child(place) == plain.child(number));
-        check_that(rt, trie.leftmost(place) == plain.leftmost(number));
+        assert!(rt; u16::from(trie.byte_at(place)) == plain.letter(number).min(0xFF));
+        assert!(rt; trie.child(place) == plain.child(number));
+        assert!(rt; trie.leftmost(place) == plain.leftmost(number));
         check_before(rt, trie, plain, place, number);
     }
 }
@@ -90,11 +86,8 @@ fn check_before(rt: &impl Abort, trie: &Trie<Global>, plain: &Plain, place: Plac
     requires { IsWithin trie.now place }
 {
     let before = (plain.leaf_slot(number), plain.first_below(number));
-    check_that(
-        rt,
-        (trie.leaf_slot(place), trie.first_below(place)) == before,
-    );
-    check_that(rt, trie.before_place(place) == before);
+    assert!(rt; (trie.leaf_slot(place), trie.first_below(place)) == before);
+    assert!(rt; trie.before_place(place) == before);
 }
 
 // The branch by a byte, which is at most FF.
@@ -104,7 +97,7 @@ fn check_branch(rt: &impl Abort, trie: &Trie<Global>, plain: &Plain, node: u64, 
     let number = plain.branch(node as usize, u16::from(byte));
     match trie.branch(node, byte) {
         Some(place) => check_place(rt, trie, plain, place, number),
-        None => check_that(rt, number.is_none()),
+        None => assert!(rt; number.is_none()),
     }
 }
 
@@ -116,31 +109,19 @@ fn check_beside(rt: &impl Abort, trie: &Trie<Global>, plain: &Plain, node: u64, 
         return;
     }
     let next = trie.next_branch(node, byte);
-    check_that(
-        rt,
-        is_same_place(trie, plain, next, plain.next_branch(node as usize, byte)),
-    );
+    assert!(rt; is_same_place(trie, plain, next, plain.next_branch(node as usize, byte)));
     let prev = trie.prev_branch(node, byte);
-    check_that(
-        rt,
-        is_same_place(trie, plain, prev, plain.prev_branch(node as usize, byte)),
-    );
+    assert!(rt; is_same_place(trie, plain, prev, plain.prev_branch(node as usize, byte)));
 }
 
 fn check_node(rt: &impl Abort, trie: &Trie<Global>, plain: &Plain, node: u64)
     requires { node < length (nodes trie.now.leaves) }
 {
     let first = plain.range(node as usize).0;
-    check_that(rt, trie.prefix_slot(node) == plain.end_slot(node as usize));
-    check_that(rt, trie.slots_before(node) == plain.leaf_slot(first));
-    check_that(
-        rt,
-        trie.first_below(trie.first_place(node)) == plain.first_below(first),
-    );
-    check_that(
-        rt,
-        trie.before_node(node) == (plain.leaf_slot(first), plain.first_below(first)),
-    );
+    assert!(rt; trie.prefix_slot(node) == plain.end_slot(node as usize));
+    assert!(rt; trie.slots_before(node) == plain.leaf_slot(first));
+    assert!(rt; trie.first_below(trie.first_place(node)) == plain.first_below(first));
+    assert!(rt; trie.before_node(node) == (plain.leaf_slot(first), plain.first_below(first)));
     for letter in LETTERS {
         let byte = u16::from(letter);
         check_branch(rt, trie, plain, node, letter);
@@ -162,9 +143,9 @@ fn slot_in(walk: Walk) -> Option<u64> {
 fn check_walk(rt: &impl Abort, trie: &Trie<Global>, plain: &Plain, key: &[u8]) {
     let leaf = plain.walk(key);
     let slot = leaf.map(|leaf| leaf.0);
-    check_that(rt, trie.walk_to(key) == leaf);
-    check_that(rt, slot_in(trie.walk(key)) == slot);
-    check_that(rt, slot_in(counted(trie, key)) == slot);
+    assert!(rt; trie.walk_to(key) == leaf);
+    assert!(rt; slot_in(trie.walk(key)) == slot);
+    assert!(rt; slot_in(counted(trie, key)) == slot);
 }
 
 // A key, and what is beside it: without its last letter, and one letter longer.
@@ -190,10 +171,7 @@ fn check_sums(rt: &impl Abort, trie: &Trie<Global>, plain: &Plain, node: u64) {
     let height = usize::from(trie.height());
     for level in 0..height {
         if let Some(sum) = trie.kept_sum(level, node) {
-            check_that(
-                rt,
-                sum == plain.slots_down(height.saturating_sub(level), node),
-            );
+            assert!(rt; sum == plain.slots_down(height.saturating_sub(level), node));
         }
     }
 }
@@ -201,13 +179,13 @@ fn check_sums(rt: &impl Abort, trie: &Trie<Global>, plain: &Plain, node: u64) {
 fn check_nodes(rt: &impl Abort, trie: &Trie<Global>, plain: &Plain) {
     for node in 0..plain.node_count() as u64 {
         let there = has_node(trie, node);
-        check_that(rt, there);
+        assert!(rt; there);
         check_node(rt, trie, plain, node);
         check_sums(rt, trie, plain, node);
     }
     check_sums(rt, trie, plain, plain.node_count() as u64);
-    check_that(rt, !has_node(trie, plain.node_count() as u64));
-    check_that(rt, trie.level_starts() == plain.level_starts());
+    assert!(rt; !has_node(trie, plain.node_count() as u64));
+    assert!(rt; trie.level_starts() == plain.level_starts());
 }
 
 fn check_trie(
@@ -220,7 +198,7 @@ fn check_trie(
 ) -> Result<(), AllocError> {
     if all_calls {
         check_nodes(rt, trie, plain);
-        check_that(rt, trie.walk(b"") == Walk::Miss);
+        assert!(rt; trie.walk(b"") == Walk::Miss);
     }
     for i in 0..keys.len() {
         check_walks(rt, alloc, trie, plain, keys.get(i))?;
@@ -274,14 +252,8 @@ fn random_sets_at_every_cutoff_answer_as_plain_loops(rt: HostRuntime) -> Result<
 // The sums that a trie of two keys of 16 letters keeps, which part at the last one: those of level 0, where two nodes have
 // one.
 fn check_kept(rt: &impl Abort, trie: &Trie<Global>) {
-    check_that(
-        rt,
-        trie.kept_sum(0, 0) == Some(0) && trie.kept_sum(0, 1) == Some(2),
-    );
-    check_that(
-        rt,
-        trie.kept_sum(0, 2).is_none() && trie.kept_sum(1, 1).is_none(),
-    );
+    assert!(rt; trie.kept_sum(0, 0) == Some(0) && trie.kept_sum(0, 1) == Some(2));
+    assert!(rt; trie.kept_sum(0, 2).is_none() && trie.kept_sum(1, 1).is_none());
 }
 
 #[test]

@@ -3,7 +3,6 @@
 use super::cursors::{check_next, check_prev, is_least, start_at};
 use super::keys::list_of_words;
 use super::tries::trie_with;
-use crate::asserts::check_that;
 use filter_iter::{FilterCursor, range, seek, tally};
 use filter_trie::Trie;
 use key_base::KeyList;
@@ -19,19 +18,19 @@ fn far_to_toy(alloc: Global) -> Result<KeyList, AllocError> {
 }
 
 fn check_range(rt: &impl Abort, trie: &Trie<Global>, lo: &[u8], hi: &[u8], wanted: bool) {
-    check_that(rt, range(trie, lo, hi) == wanted);
+    assert!(rt; range(trie, lo, hi) == wanted);
 }
 
 fn check_seek(rt: &impl Abort, trie: &Trie<Global>, lo: &[u8], wanted: u32) {
-    check_that(rt, seek(trie, lo) == Some(wanted));
+    assert!(rt; seek(trie, lo) == Some(wanted));
 }
 
 fn check_past(rt: &impl Abort, trie: &Trie<Global>, lo: &[u8]) {
-    check_that(rt, seek(trie, lo).is_none());
+    assert!(rt; seek(trie, lo).is_none());
 }
 
 fn check_tally(rt: &impl Abort, trie: &Trie<Global>, lo: &[u8], hi: &[u8], wanted: u32) {
-    check_that(rt, tally(trie, lo, hi) == wanted);
+    assert!(rt; tally(trie, lo, hi) == wanted);
 }
 
 fn check_least(
@@ -41,7 +40,7 @@ fn check_least(
     n: u32,
     wanted: &[u8],
 ) -> Result<(), Fail> {
-    check_that(rt, is_least(alloc, trie, n, wanted)?);
+    assert!(rt; is_least(alloc, trie, n, wanted)?);
     Ok(())
 }
 
@@ -71,8 +70,8 @@ fn ranges_of_far_to_toy(rt: HostRuntime) -> Result<(), Fail> {
 }
 
 fn go_to_the_first(rt: &impl Abort, cursor: &mut FilterCursor<'_, Global, Global>) {
-    check_that(rt, cursor.leaf() == 2);
-    check_that(rt, cursor.slot() == 0);
+    assert!(rt; cursor.leaf() == 2);
+    assert!(rt; cursor.slot() == 0);
     check_prev(rt, cursor, true, 1);
     check_next(rt, cursor, true, 2);
     check_prev(rt, cursor, true, 1);
@@ -89,7 +88,7 @@ fn check_back(rt: &impl Abort, alloc: Global, trie: &Trie<Global>) -> Result<(),
 fn check_last(rt: &impl Abort, alloc: Global, trie: &Trie<Global>) -> Result<(), Fail> {
     let mut cursor = start_at(&alloc, trie, b"toy")?;
     check_next(rt, &mut cursor, false, 4);
-    check_that(rt, FilterCursor::start(&alloc, trie, b"u")?.is_none());
+    assert!(rt; FilterCursor::start(&alloc, trie, b"u")?.is_none());
     Ok(())
 }
 

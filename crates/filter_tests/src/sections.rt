@@ -1,6 +1,5 @@
 //! The sections that halves lend, against those that an image has, made by plain loops.
 use super::plain::{END, Plain};
-use crate::asserts::check_that;
 use louds_dense::Dense;
 use louds_sparse::Sparse;
 use std::alloc::Global;
@@ -21,7 +20,7 @@ fn has_words_for(words: &[u64], bits: usize) -> bool {
 
 // The bits of a node's bytes and of its END.
 fn check_dense_row(rt: &impl Abort, dense: &Dense<Global>, plain: &Plain, node: usize) {
-    check_that(rt, bit_of(dense.prefix(), node) == Some(plain.ends(node)));
+    assert!(rt; bit_of(dense.prefix(), node) == Some(plain.ends(node)));
     for byte in 0..END {
         let at = node.saturating_mul(256).saturating_add(usize::from(byte));
         let branch = plain.branch(node, byte);
@@ -29,8 +28,8 @@ fn check_dense_row(rt: &impl Abort, dense: &Dense<Global>, plain: &Plain, node: 
             Some(place) => plain.child(place as usize).is_some(),
             None => false,
         };
-        check_that(rt, bit_of(dense.labels(), at) == Some(branch.is_some()));
-        check_that(rt, bit_of(dense.has_child(), at) == Some(is_child));
+        assert!(rt; bit_of(dense.labels(), at) == Some(branch.is_some()));
+        assert!(rt; bit_of(dense.has_child(), at) == Some(is_child));
     }
 }
 
@@ -42,9 +41,9 @@ pub(crate) fn check_dense_sections(
     cut: usize,
 ) {
     let bits = cut.saturating_mul(256);
-    check_that(rt, has_words_for(dense.labels(), bits));
-    check_that(rt, has_words_for(dense.has_child(), bits));
-    check_that(rt, has_words_for(dense.prefix(), cut));
+    assert!(rt; has_words_for(dense.labels(), bits));
+    assert!(rt; has_words_for(dense.has_child(), bits));
+    assert!(rt; has_words_for(dense.prefix(), cut));
     for node in 0..cut {
         check_dense_row(rt, dense, plain, node);
     }
@@ -62,12 +61,9 @@ fn check_sparse_row(
     for place in from..to {
         let at = place.saturating_sub(first);
         let label = plain.letter(place).min(0xFF) as u8;
-        check_that(rt, sparse.labels().get(at) == Some(&label));
-        check_that(
-            rt,
-            bit_of(sparse.has_child(), at) == Some(plain.child(place).is_some()),
-        );
-        check_that(rt, bit_of(sparse.louds(), at) == Some(place == from));
+        assert!(rt; sparse.labels().get(at) == Some(&label));
+        assert!(rt; bit_of(sparse.has_child(), at) == Some(plain.child(place).is_some()));
+        assert!(rt; bit_of(sparse.louds(), at) == Some(place == from));
     }
 }
 
@@ -80,9 +76,9 @@ pub(crate) fn check_sparse_sections(
 ) {
     let first = plain.range(cut).0;
     let places = plain.place_count().saturating_sub(first);
-    check_that(rt, sparse.labels().len() == places);
-    check_that(rt, has_words_for(sparse.has_child(), places));
-    check_that(rt, has_words_for(sparse.louds(), places));
+    assert!(rt; sparse.labels().len() == places);
+    assert!(rt; has_words_for(sparse.has_child(), places));
+    assert!(rt; has_words_for(sparse.louds(), places));
     for node in cut..plain.node_count() {
         check_sparse_row(rt, sparse, plain, first, node);
     }

@@ -4,7 +4,6 @@ use super::bounds::bounds_near;
 use super::cursors::{go_back, go_on, is_least, says_least};
 use super::keys::{drawn_list, step};
 use super::tries::{plain_of, stubs_of, trie_with};
-use crate::asserts::check_that;
 use filter_api::RangeFilter;
 use filter_iter::{FilterCursor, range, seek, tally};
 use filter_trie::Trie;
@@ -40,8 +39,8 @@ fn widths(seed: u64) -> (u8, u8) {
 
 fn check_pair(rt: &impl Abort, trie: &Trie<Global>, plain: &PlainFilter, lo: &[u8], hi: &[u8]) {
     if !compare(hi, lo).is_lt() {
-        check_that(rt, range(trie, lo, hi) == plain.may_hold_range(lo, hi));
-        check_that(rt, tally(trie, lo, hi) == plain.tally(lo, hi));
+        assert!(rt; range(trie, lo, hi) == plain.may_hold_range(lo, hi));
+        assert!(rt; tally(trie, lo, hi) == plain.tally(lo, hi));
     }
 }
 
@@ -52,7 +51,7 @@ fn check_bound(
     lo: &[u8],
     bounds: &[Vec<u8>],
 ) {
-    check_that(rt, seek(trie, lo) == plain.seek(lo));
+    assert!(rt; seek(trie, lo) == plain.seek(lo));
     for hi in bounds {
         check_pair(rt, trie, plain, lo, hi.as_slice());
     }
@@ -72,7 +71,7 @@ fn check_found(
     stubs: &[Stub],
     first: Option<u32>,
 ) {
-    check_that(rt, first == Some(cursor.leaf()));
+    assert!(rt; first == Some(cursor.leaf()));
     let from = cursor.leaf() as usize;
     go_on(rt, cursor, trie, keys, stubs, from);
     go_back(rt, cursor, trie, keys, stubs);
@@ -88,9 +87,9 @@ fn check_cursor(
     first: Option<u32>,
 ) -> Result<(), Fail> {
     match FilterCursor::start(&alloc, trie, lo)? {
-        None => check_that(rt, first.is_none()),
+        None => assert!(rt; first.is_none()),
         Some(mut cursor) => {
-            check_that(rt, says_least(alloc, &cursor, trie)?);
+            assert!(rt; says_least(alloc, &cursor, trie)?);
             check_found(rt, &mut cursor, trie, keys, stubs, first);
         }
     }
@@ -122,7 +121,7 @@ fn check_least(
     for n in 0..plain.leaves() {
         let mut wanted = Vec::new(alloc);
         plain.least_of(n, &mut wanted)?;
-        check_that(rt, is_least(alloc, trie, n, wanted.as_slice())?);
+        assert!(rt; is_least(alloc, trie, n, wanted.as_slice())?);
     }
     Ok(())
 }

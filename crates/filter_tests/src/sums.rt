@@ -3,7 +3,6 @@ use super::codec::{image_of, read};
 use super::filters::filter_of;
 use super::keys::list_of_words;
 use super::tries::{base_trie, boxed, some_trie, trie_of, trie_with};
-use crate::asserts::check_that;
 use filter_api::Settings;
 use filter_trie::Trie;
 use key_base::KeyList;
@@ -90,17 +89,17 @@ fn check_memory(
     bits: u64,
 ) -> Result<(), AllocError> {
     let image = image_of(alloc, trie)?;
-    check_that(rt, trie.image_bytes() == image.len() as u64);
-    check_that(rt, trie.memory_bits() == bits);
+    assert!(rt; trie.image_bytes() == image.len() as u64);
+    assert!(rt; trie.memory_bits() == bits);
     let image_bits = (image.len() as u64).saturating_mul(8);
-    check_that(rt, bits.saturating_mul(10) <= image_bits.saturating_mul(11));
+    assert!(rt; bits.saturating_mul(10) <= image_bits.saturating_mul(11));
     Ok(())
 }
 
 fn check_pairs(rt: &impl Abort, alloc: Global, shared: usize, bits: u64) -> Result<(), Fail> {
     let keys = pairs(alloc, shared)?;
     let trie = base_trie(alloc, &keys, CUTOFF)?;
-    check_that(rt, keeps_sums(&trie) == (shared > 12));
+    assert!(rt; keeps_sums(&trie) == (shared > 12));
     check_memory(rt, alloc, &trie, bits)?;
     Ok(())
 }
@@ -133,7 +132,7 @@ fn keep_again(
     trie: &mut Trie<Global>,
     bits: u64,
 ) -> Result<(), AllocError> {
-    check_that(rt, trie.memory_bits() == bits);
+    assert!(rt; trie.memory_bits() == bits);
     trie.keep_sums(alloc)?;
     check_memory(rt, alloc, trie, bits)
 }
@@ -146,7 +145,7 @@ fn check_kept_again(rt: &impl Abort, alloc: Global, shared: usize, bits: u64) ->
     let Ok(again) = read(alloc, &image) else {
         return Err(Fail::from("no image"));
     };
-    check_that(rt, again.memory_bits() == bits);
+    assert!(rt; again.memory_bits() == bits);
     Ok(())
 }
 
@@ -169,7 +168,7 @@ fn check_words(
 ) -> Result<(), Fail> {
     let keys = list_of_words(alloc, &WORDS)?;
     let trie = some_trie(trie_with(alloc, &keys, hash_bits, real_bits, cutoff)?)?;
-    check_that(rt, trie.memory_bits() == bits);
+    assert!(rt; trie.memory_bits() == bits);
     Ok(())
 }
 
@@ -200,7 +199,7 @@ fn check_filter(
     };
     let filter: SurfFilter<Global> = filter_of(alloc, &keys, settings)?;
     let filter = boxed(alloc, filter)?;
-    check_that(rt, filter.memory_bits() == bits);
+    assert!(rt; filter.memory_bits() == bits);
     Ok(())
 }
 
@@ -213,10 +212,9 @@ fn a_filter_takes_what_its_trie_does(rt: HostRuntime) -> Result<(), Fail> {
 // The sums of a level from a node on to the next one, below which so many leaves stand.
 fn check_kept(rt: &impl Abort, trie: &Trie<Global>, level: usize, node: u64, leaves: u64) {
     let starts = trie.level_starts();
-    check_that(rt, trie.kept_sum(level, node) == Some(starts));
-    check_that(
-        rt,
-        trie.kept_sum(level, node.saturating_add(1)) == Some(starts.saturating_add(leaves)),
+    assert!(rt; trie.kept_sum(level, node) == Some(starts));
+    assert!(rt;
+        trie.kept_sum(level, node.saturating_add(1)) == Some(starts.saturating_add(leaves))
     );
 }
 
@@ -227,7 +225,7 @@ fn sums_are_of_a_level_with_few_leaves_below_each_node(rt: HostRuntime) -> Resul
     let few = base_trie(alloc, &many_below(alloc, 252)?, 0)?;
     check_kept(&rt, &few, 0, 0, 256);
     let many = base_trie(alloc, &many_below(alloc, 253)?, 0)?;
-    check_that(&rt, many.kept_sum(0, 0).is_none());
+    assert!(rt; many.kept_sum(0, 0).is_none());
     check_kept(&rt, &many, 1, 1, 253);
     Ok(())
 }

@@ -7,7 +7,6 @@ ghost use Rattle.trie_model.specs.Walks.{steps};
 use super::keys::{list_of_words, step};
 use super::levels::{byte_keys, pair_keys};
 use super::tries::{HASH_BITS, trie_of};
-use crate::asserts::check_that;
 use filter_trie::{Steps, Trie, Walk};
 use key_base::KeyList;
 use std::alloc::{AllocError, Global};
@@ -38,8 +37,8 @@ fn check_rows(
 }
 
 fn check_shape(rt: &impl Abort, trie: &Trie<Global>, cutoff: u16, height: u16) {
-    check_that(rt, trie.cutoff() == cutoff);
-    check_that(rt, trie.height() == height);
+    assert!(rt; trie.cutoff() == cutoff);
+    assert!(rt; trie.height() == height);
 }
 
 fn check_trie(
@@ -74,8 +73,8 @@ pub(crate) fn counted(trie: &Trie<Global>, key: &[u8]) -> Walk {
 
 fn check_walks(rt: &impl Abort, trie: &Trie<Global>, rows: &[(&[u8], Walk)]) {
     for (key, end) in rows {
-        check_that(rt, trie.walk(key) == *end);
-        check_that(rt, counted(trie, key) == *end);
+        assert!(rt; trie.walk(key) == *end);
+        assert!(rt; counted(trie, key) == *end);
     }
 }
 
@@ -149,12 +148,12 @@ fn a_walk_tells_how_long_the_stub_is(rt: HostRuntime) -> Result<(), Fail> {
     let keys = list_of_words(rt.alloc(), &[b"far", b"fast", b"s", b"so", b"top"])?;
     for cutoff in 0..=3 {
         let trie = trie_of(rt.alloc(), &keys, cutoff)?;
-        check_that(&rt, trie.walk_to(b"fasten") == Some((4, 3)));
-        check_that(&rt, trie.walk_to(b"toy") == Some((0, 1)));
-        check_that(&rt, trie.walk_to(b"s") == Some((1, 1)));
-        check_that(&rt, trie.walk_to(b"sou") == Some((2, 2)));
-        check_that(&rt, trie.walk_to(b"sun").is_none());
-        check_that(&rt, trie.walk_to(b"fa").is_none());
+        assert!(rt; trie.walk_to(b"fasten") == Some((4, 3)));
+        assert!(rt; trie.walk_to(b"toy") == Some((0, 1)));
+        assert!(rt; trie.walk_to(b"s") == Some((1, 1)));
+        assert!(rt; trie.walk_to(b"sou") == Some((2, 2)));
+        assert!(rt; trie.walk_to(b"sun").is_none());
+        assert!(rt; trie.walk_to(b"fa").is_none());
     }
     Ok(())
 }
@@ -168,10 +167,10 @@ fn check_keys(
 ) -> Result<(), AllocError> {
     let mut taken = Vec::new(alloc);
     taken.resize(keys.len(), false)?;
-    check_that(rt, trie.leaves() as usize == keys.len());
+    assert!(rt; trie.leaves() as usize == keys.len());
     for i in 0..keys.len() {
         let slot = leaf_in(rt, trie, keys.get(i));
-        check_that(rt, taken.get(slot as usize) == Some(&false));
+        assert!(rt; taken.get(slot as usize) == Some(&false));
         take(taken.as_mut_slice(), slot as usize);
     }
     Ok(())
@@ -182,7 +181,7 @@ fn leaf_in(rt: &impl Abort, trie: &Trie<Global>, key: &[u8]) -> u64 {
     match trie.walk(key) {
         Walk::Leaf(slot) => {
             assert!(rt; slot < u64::from(trie.leaves()));
-            check_that(rt, trie.suffix(slot).0 == hash_bits_of(key, HASH_BITS));
+            assert!(rt; trie.suffix(slot).0 == hash_bits_of(key, HASH_BITS));
             slot
         }
         Walk::Miss => u64::MAX,
@@ -208,7 +207,7 @@ fn every_key_of_one_byte_at_every_cutoff(rt: HostRuntime) -> Result<(), Fail> {
 
 fn check_bytes(rt: &impl Abort, trie: &Trie<Global>) {
     for byte in 0..=0xFF {
-        check_that(rt, trie.walk(&[byte]) == Walk::Leaf(u64::from(byte)));
+        assert!(rt; trie.walk(&[byte]) == Walk::Leaf(u64::from(byte)));
     }
 }
 
@@ -226,11 +225,8 @@ fn every_key_of_two_bytes_at_every_cutoff(rt: HostRuntime) -> Result<(), Fail> {
 fn check_pairs(rt: &impl Abort, trie: &Trie<Global>) {
     for pair in 0..=0xFFFF {
         let [first, second] = u16::to_be_bytes(pair);
-        check_that(rt, trie.walk(&[first]) == Walk::Miss);
-        check_that(
-            rt,
-            trie.walk(&[first, second]) == Walk::Leaf(u64::from(pair)),
-        );
+        assert!(rt; trie.walk(&[first]) == Walk::Miss);
+        assert!(rt; trie.walk(&[first, second]) == Walk::Leaf(u64::from(pair)));
     }
 }
 
@@ -252,7 +248,7 @@ fn every_key_of_many_random_ones(rt: HostRuntime) -> Result<(), Fail> {
     let keys = random_keys(rt.alloc(), RANDOM_KEYS)?;
     for cutoff in 0..=2 {
         let trie = trie_of(rt.alloc(), &keys, cutoff)?;
-        check_that(&rt, trie.height() > 2);
+        assert!(rt; trie.height() > 2);
         check_keys(&rt, rt.alloc(), &keys, &trie)?;
     }
     Ok(())

@@ -7,7 +7,6 @@ use super::images::{
 };
 use super::judge::{Kind, judge};
 use super::keys::step;
-use crate::asserts::check_that;
 use filter_api::FilterFault;
 use filter_trie::{Trie, Walk};
 use std::alloc::{AllocError, Global};
@@ -54,10 +53,10 @@ fn images_with_real_bits_are_none_of_whole_keys(rt: HostRuntime) -> Result<(), F
 
 fn check_walks(rt: &impl Abort, trie: &Trie<Global>, keys: &[&[u8]], other: &[u8]) {
     for (slot, key) in keys.iter().enumerate() {
-        check_that(rt, trie.walk(*key) == Walk::Leaf(slot as u64));
+        assert!(rt; trie.walk(*key) == Walk::Leaf(slot as u64));
     }
-    check_that(rt, trie.walk(other) == Walk::Miss);
-    check_that(rt, trie.leaves() as usize == keys.len());
+    assert!(rt; trie.walk(other) == Walk::Miss);
+    assert!(rt; trie.leaves() as usize == keys.len());
 }
 
 // An image is read as a trie whose slots these keys reach, in their order, and that has this image again; another key misses.
@@ -83,7 +82,7 @@ fn check_both(
     other: &[u8],
 ) -> Result<(), Fail> {
     let refused = fault_of(rt, alloc, Kind::Filters, image)?;
-    check_that(rt, refused.is_none());
+    assert!(rt; refused.is_none());
     check_read(rt, alloc, image, keys, other)
 }
 
@@ -97,7 +96,7 @@ fn check_whole(
     other: &[u8],
 ) -> Result<(), Fail> {
     let refused = fault_of(rt, alloc, Kind::Filters, image)?;
-    check_that(rt, refused == Some(FilterFault { place, rule: 9 }));
+    assert!(rt; refused == Some(FilterFault { place, rule: 9 }));
     check_read(rt, alloc, image, keys, other)
 }
 
@@ -240,7 +239,7 @@ fn long_image(alloc: Global, len: u16, beside: bool) -> Result<Vec<u8>, AllocErr
 fn the_longest_keys_are_read(rt: HostRuntime) -> Result<(), Fail> {
     let key = [0x61; 1_024];
     let both = long_image(rt.alloc(), 1_024, true)?;
-    check_that(&rt, both.len() == 1_323);
+    assert!(&rt; both.len() == 1_323);
     check_both(
         &rt,
         rt.alloc(),
@@ -249,7 +248,7 @@ fn the_longest_keys_are_read(rt: HostRuntime) -> Result<(), Fail> {
         b"a",
     )?;
     let alone = long_image(rt.alloc(), 1_024, false)?;
-    check_that(&rt, alone.len() == 1_320);
+    assert!(&rt; alone.len() == 1_320);
     check_whole(&rt, rt.alloc(), alone.as_slice(), 40, &[&key], b"a")
 }
 
@@ -264,9 +263,9 @@ fn a_longer_key_is_none(rt: HostRuntime) -> Result<(), Fail> {
 
 fn check_bytes(rt: &impl Abort, alloc: Global, bytes: &[u8]) -> Result<(), AllocError> {
     let whole = fault_of(rt, alloc, Kind::WholeKeys, bytes)?;
-    check_that(rt, whole == judge(alloc, bytes, Kind::WholeKeys)?);
+    assert!(rt; whole == judge(alloc, bytes, Kind::WholeKeys)?);
     let filters = fault_of(rt, alloc, Kind::Filters, bytes)?;
-    check_that(rt, filters == judge(alloc, bytes, Kind::Filters)?);
+    assert!(rt; filters == judge(alloc, bytes, Kind::Filters)?);
     Ok(())
 }
 

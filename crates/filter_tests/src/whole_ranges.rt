@@ -4,7 +4,6 @@ use super::codec::read_whole;
 use super::cursors::{check_next, check_prev, is_least, start_at};
 use super::images::{SPARSE, changed};
 use super::whole_images::ZEBRA;
-use crate::asserts::check_that;
 use filter_iter::{FilterCursor, range, seek, tally};
 use filter_trie::Trie;
 use key_base::MAX_KEY_BYTES;
@@ -22,23 +21,23 @@ fn check_at(
 ) {
     let mut written = [0; MAX_KEY_BYTES];
     let count = cursor.stub(&mut written);
-    check_that(rt, cursor.leaf() == leaf);
-    check_that(rt, cursor.slot() == slot);
-    check_that(rt, written.get(..count) == key.get(..));
+    assert!(rt; cursor.leaf() == leaf);
+    assert!(rt; cursor.slot() == slot);
+    assert!(rt; written.get(..count) == key.get(..));
 }
 
 // ---- zebra alone
 
 fn check_zebra(rt: &impl Abort, trie: &Trie<Global>) {
-    check_that(rt, seek(trie, b"") == Some(0));
-    check_that(rt, seek(trie, b"zebra") == Some(0));
+    assert!(rt; seek(trie, b"") == Some(0));
+    assert!(rt; seek(trie, b"zebra") == Some(0));
     // it may stand for a key that goes on
-    check_that(rt, seek(trie, b"zebra\xFF") == Some(0));
-    check_that(rt, seek(trie, b"zebrb").is_none());
-    check_that(rt, tally(trie, b"zeb", b"zebra") == 1);
-    check_that(rt, tally(trie, b"a", b"zebr") == 0);
-    check_that(rt, range(trie, b"zebra", b"zebra"));
-    check_that(rt, !range(trie, b"zebrb", b"zz"));
+    assert!(rt; seek(trie, b"zebra\xFF") == Some(0));
+    assert!(rt; seek(trie, b"zebrb").is_none());
+    assert!(rt; tally(trie, b"zeb", b"zebra") == 1);
+    assert!(rt; tally(trie, b"a", b"zebr") == 0);
+    assert!(rt; range(trie, b"zebra", b"zebra"));
+    assert!(rt; !range(trie, b"zebrb", b"zz"));
 }
 
 fn check_zebra_walk(rt: &impl Abort, alloc: Global, trie: &Trie<Global>) -> Result<(), Fail> {
@@ -46,8 +45,8 @@ fn check_zebra_walk(rt: &impl Abort, alloc: Global, trie: &Trie<Global>) -> Resu
     check_at(rt, &cursor, 0, 0, b"zebra");
     check_next(rt, &mut cursor, false, 0);
     check_prev(rt, &mut cursor, false, 0);
-    check_that(rt, FilterCursor::start(&alloc, trie, b"zebrb")?.is_none());
-    check_that(rt, is_least(alloc, trie, 0, b"zebra")?);
+    assert!(rt; FilterCursor::start(&alloc, trie, b"zebrb")?.is_none());
+    assert!(rt; is_least(alloc, trie, 0, b"zebra")?);
     Ok(())
 }
 
@@ -61,15 +60,15 @@ fn ranges_of_zebra_alone(rt: HostRuntime) -> Result<(), Fail> {
 // ---- z and ab: z has slot 0, and ab is the first in key order
 
 fn check_ab_and_z(rt: &impl Abort, trie: &Trie<Global>) {
-    check_that(rt, seek(trie, b"a") == Some(0));
-    check_that(rt, seek(trie, b"ab") == Some(0));
-    check_that(rt, seek(trie, b"ac") == Some(1));
-    check_that(rt, seek(trie, b"{").is_none());
-    check_that(rt, tally(trie, b"", b"zz") == 2);
-    check_that(rt, tally(trie, b"a", b"ab") == 1);
-    check_that(rt, tally(trie, b"ac", b"y") == 0);
-    check_that(rt, range(trie, b"aa", b"ab"));
-    check_that(rt, !range(trie, b"ac", b"y"));
+    assert!(rt; seek(trie, b"a") == Some(0));
+    assert!(rt; seek(trie, b"ab") == Some(0));
+    assert!(rt; seek(trie, b"ac") == Some(1));
+    assert!(rt; seek(trie, b"{").is_none());
+    assert!(rt; tally(trie, b"", b"zz") == 2);
+    assert!(rt; tally(trie, b"a", b"ab") == 1);
+    assert!(rt; tally(trie, b"ac", b"y") == 0);
+    assert!(rt; range(trie, b"aa", b"ab"));
+    assert!(rt; !range(trie, b"ac", b"y"));
 }
 
 fn check_ab_and_z_walk(rt: &impl Abort, alloc: Global, trie: &Trie<Global>) -> Result<(), Fail> {
@@ -81,7 +80,7 @@ fn check_ab_and_z_walk(rt: &impl Abort, alloc: Global, trie: &Trie<Global>) -> R
     check_prev(rt, &mut cursor, false, 0);
     check_next(rt, &mut cursor, true, 1);
     check_at(rt, &cursor, 1, 0, b"z");
-    check_that(rt, is_least(alloc, trie, 0, b"ab")?);
+    assert!(rt; is_least(alloc, trie, 0, b"ab")?);
     Ok(())
 }
 

@@ -7,6 +7,7 @@ use std::test::Fail;
 fn the_first_fault_of_a_pair_is_said(rt: HostRuntime) -> Result<(), Fail> {
     let long = [7; 1_025];
     let value = vec![in rt.alloc(); 0; 65_537]?;
+    assert!(rt; value.len() == 65_537);
     let mut builder = FstBuilder::new(rt.alloc());
     assert!(rt; builder.add(b"b", &[1]) == Ok(()));
     assert!(rt; builder.add(b"", &[1]) == Err(AddError::Key(0)));

@@ -220,7 +220,7 @@ fn drawn_blocks_of_both_formats(rt: HostRuntime) -> Result<(), Fail> {
         let keys = drawn_keys(alloc, &mut numbers, count)?;
         let list = entries_of(alloc, &mut numbers, &keys)?;
         let list = list.as_slice();
-        check_that(&rt, are_entries(list));
+        assert!(rt; are_entries(list));
         let bytes = built(alloc, list)?;
         check_same(
             &rt,

@@ -31,7 +31,7 @@ fn fault_of(bytes: &[u8]) -> Option<(usize, u8)> {
 fn a_block_of_one_entry(rt: HostRuntime) -> Result<(), Fail> {
     let mut list = Vec::new(rt.alloc());
     push_copy(&Entry::new(rt.alloc(), b"a", Some(b"b"))?, &mut list)?;
-    check_that(&rt, are_entries(list.as_slice()));
+    assert!(rt; are_entries(list.as_slice()));
     let bytes = block_bytes(rt.alloc(), list.as_slice())?;
     check_same(&rt, &bytes.as_slice(), &a_b().as_slice());
     check_same(&rt, &fnv1a(bytes.as_slice()), &0x587B62AD428B4221);
@@ -338,7 +338,7 @@ fn tombstones(alloc: Global, count: u8) -> Result<Vec<Entry>, AllocError> {
 #[test]
 fn seventeen_entries(rt: HostRuntime) -> Result<(), Fail> {
     let list = tombstones(rt.alloc(), 17)?;
-    check_that(&rt, are_entries(list.as_slice()));
+    assert!(rt; are_entries(list.as_slice()));
     check_same(&rt, &block_length(list.as_slice()), &189);
     let mut bytes = block_bytes(rt.alloc(), list.as_slice())?;
     assert!(rt; bytes.len() == 4096);
@@ -525,7 +525,7 @@ fn changed_bytes_of_drawn_blocks(rt: HostRuntime) -> Result<(), Fail> {
         let keys = drawn_keys(rt.alloc(), &mut numbers, count)?;
         let list = entries_of(rt.alloc(), &mut numbers, keys.as_slice())?;
         let list = list.as_slice();
-        check_that(&rt, are_entries(list));
+        assert!(rt; are_entries(list));
         let mut bytes = if round % 3 == 0 {
             old_block_bytes(rt.alloc(), list)?
         } else {

@@ -15,7 +15,7 @@ fn a_and_ab(alloc: Global) -> Result<Vec<Entry>, AllocError> {
 #[test]
 fn a_block_of_two_entries(rt: HostRuntime) -> Result<(), Fail> {
     let list = a_and_ab(rt.alloc())?;
-    check_that(&rt, are_entries(list.as_slice()));
+    assert!(rt; are_entries(list.as_slice()));
     let bytes = block_bytes(rt.alloc(), list.as_slice())?;
     let used = [
         0x1F, 0, 0, 0, 2, 2, 0, 0, 0x0A, 0, 1, 0, 0, 1, 0, 1, 0, 0, 0, 0x61, 0x62, 2, 1, 0, 1, 0,
@@ -30,7 +30,7 @@ fn a_block_of_two_entries(rt: HostRuntime) -> Result<(), Fail> {
 #[test]
 fn an_index_of_one_block(rt: HostRuntime) -> Result<(), Fail> {
     let list = a_and_ab(rt.alloc())?;
-    check_that(&rt, are_entries(list.as_slice()));
+    assert!(rt; are_entries(list.as_slice()));
     let bytes = index_bytes(rt.alloc(), list.as_slice())?;
     let index = [
         0x53, 0x52, 0x46, 0x49, 1, 0, 0, 0, 1, 0, 0x61, 1, 0, 0, 0, 0x4C, 0x37, 0xB1, 0xA5, 0xC5,
@@ -52,7 +52,7 @@ fn three_values_of_65_536_bytes(rt: HostRuntime) -> Result<(), Fail> {
     for key in 1..4 {
         push_copy(&wide(rt.alloc(), key, 65_536)?, &mut list)?;
     }
-    check_that(&rt, are_entries(list.as_slice()));
+    assert!(rt; are_entries(list.as_slice()));
     check_same(&rt, &data_pages(rt.alloc(), list.as_slice())?, &51);
     check_same(
         &rt,
