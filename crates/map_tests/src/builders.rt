@@ -6,8 +6,9 @@ use std::test::Fail;
 #[test]
 fn the_first_fault_of_a_pair_is_said(rt: HostRuntime) -> Result<(), Fail> {
     let long = [7; 1_025];
+    let longest = [7; 1_024];
     let value = vec![in rt.alloc(); 0; 65_537]?;
-    assert!(rt; value.len() == 65_537);
+    let largest = vec![in rt.alloc(); 0; 65_536]?;
     let mut builder = FstBuilder::new(rt.alloc());
     assert!(rt; builder.add(b"b", &[1]) == Ok(()));
     assert!(rt; builder.add(b"", &[1]) == Err(AddError::Key(0)));
@@ -18,8 +19,8 @@ fn the_first_fault_of_a_pair_is_said(rt: HostRuntime) -> Result<(), Fail> {
     assert!(rt; builder.add(b"", value.as_slice()) == Err(AddError::Key(0)));
     assert!(rt; builder.add(b"a", value.as_slice()) == Err(AddError::Value(65_537)));
     assert!(rt; builder.len() == 1);
-    assert!(rt; builder.add(&long[..1_024], &value[..65_536]) == Err(AddError::Order));
-    assert!(rt; builder.add(b"b\x00", &value[..65_536]) == Ok(()));
+    assert!(rt; builder.add(&longest, largest.as_slice()) == Err(AddError::Order));
+    assert!(rt; builder.add(b"b\x00", largest.as_slice()) == Ok(()));
     assert!(rt; builder.len() == 2);
     Ok(())
 }
