@@ -1,5 +1,4 @@
 //! What the words ask for.
-use crate::asserts::check_same;
 use crate::runs::{base_disk, check, commanded, disk_of, served};
 use std::test::Fail;
 
@@ -78,7 +77,7 @@ fn settings_out_of_range_are_told_before_any_call(rt: HostRuntime) -> Result<(),
     let alloc = rt.alloc();
     let words = "format --pages 511 --variant base";
     let end = commanded(alloc, words, disk_of(alloc, b"")?)?;
-    check_same(&rt, &end.disk.calls(), &0);
+    assert_eq!(rt; end.disk.calls(), 0);
     Ok(())
 }
 
@@ -118,8 +117,8 @@ fn missing(text: &[u8]) -> Option<&'static str> {
 fn help_tells_each_option(rt: HostRuntime) -> Result<(), Fail> {
     let alloc = rt.alloc();
     let end = commanded(alloc, "--help", disk_of(alloc, b"")?)?;
-    check_same(&rt, &end.status, &0);
-    check_same(&rt, &missing(end.said.as_slice()), &None);
+    assert_eq!(rt; end.status, 0);
+    assert_eq!(rt; missing(end.said.as_slice()), None);
     Ok(())
 }
 
