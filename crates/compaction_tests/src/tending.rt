@@ -128,11 +128,7 @@ fn a_put_that_fills_the_log_between_two_slices(rt: HostRuntime) -> Result<(), Fa
     tended(&mut store, &mut disk, 1)?;
     check_that(&rt, has_keys(&mut store, &mut disk, b"abcd"));
     for key in 1..5u8 {
-        check_same(
-            &rt,
-            &store.get(&mut *disk, &[key]),
-            &Ok(Some(value.as_slice())),
-        );
+        assert_eq!(rt; store.get(&mut *disk, &[key]), Ok(Some(value.as_slice())));
     }
     check_that(&rt, stands(&disk, BODY_A, b"SRFM\x02\x00\x02\x00\x07"));
     Ok(())

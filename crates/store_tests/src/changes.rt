@@ -150,17 +150,13 @@ fn long_values_until_there_is_no_room(rt: HostRuntime) -> Result<(), Fail> {
     let mut store = opened(alloc, &mut disk)?;
     let value = sevens(alloc, 65_536)?;
     for key in 1..22u8 {
-        check_same(&rt, &store.put(&mut *disk, &[key], &value), &Ok(()));
+        assert_eq!(rt; store.put(&mut *disk, &[key], &value), Ok(()));
     }
     let full = StoreError::Full { need: 53, gap: 2 };
-    check_same(&rt, &store.put(&mut *disk, &[22], &value), &Err(full));
-    check_same(
-        &rt,
-        &store.get(&mut *disk, &[1]),
-        &Ok(Some(value.as_slice())),
-    );
-    check_same(&rt, &store.get(&mut *disk, &[22]), &Ok(None));
-    check_that(&rt, !store.is_stopped());
+    assert_eq!(rt; store.put(&mut *disk, &[22], &value), Err(full));
+    assert_eq!(rt; store.get(&mut *disk, &[1]), Ok(Some(value.as_slice())));
+    assert_eq!(rt; store.get(&mut *disk, &[22]), Ok(None));
+    assert!(rt; !store.is_stopped());
     Ok(())
 }
 
