@@ -47,7 +47,7 @@ last_after : (map : Map) (changes : List Change) (key : Bytes) → get (fold map
 last_after map [] key = refl
 last_after map (change ∷ later) key = last_after (map_changed_by map change) later key ∙ then_said map change key (last_said later key)
 
-changes_rise : (map : Map) (changes : List Change) → Rises map → Rises (fold map_changed_by map changes)
+pub changes_rise : (map : Map) (changes : List Change) → Rises map → Rises (fold map_changed_by map changes)
 changes_rise map [] rises = rises
 changes_rise map (Sets entry ∷ later) rises = changes_rise (changed map entry) later (entries_rise map (entry ∷ []) rises)
 changes_rise map (Clears range ∷ later) rises = changes_rise (clear map range.lo range.hi) later (clear_rises map range.lo range.hi rises)
@@ -59,7 +59,7 @@ after_none (Some value) key = refl
 pub map_says : MapSays
 map_says changes key = last_after [] changes key ∙ after_none (last_said changes key) key
 
-empty_is : IsSource empty_source
+pub empty_is : IsSource empty_source
 empty_is = record { rises = tt; ranges = tt; apart = tt; begin = tt }
 
 pub source_keeps_map : SourceKeepsMap

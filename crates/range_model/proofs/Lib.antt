@@ -9,6 +9,7 @@ pub mod Outputs
 pub mod SoundOutputs
 pub mod SameSource
 pub mod Reach
+pub mod Silence
 pub mod MapEntries
 pub mod ChangedMaps
 pub mod Hiding

@@ -75,7 +75,7 @@ none_ends (range ∷ []) at key all rise end from = ap (λ (t : Bool). t || fals
 none_ends (range ∷ next ∷ later) at key all rise end from =
     ap₂ (λ (x y : Bool). x || y) (ended range at key (highest range (next ∷ later) at all rise end) from) (none_ends (next ∷ later) at key all.1 rise.1 end from)
 
-both : (x y : Bool) → (x && not y) ≡ true → (x ≡ true) × (y ≡ false)
+pub both : (x y : Bool) → (x && not y) ≡ true → (x ≡ true) × (y ≡ false)
 both true false e = (refl, refl)
 both true true e = absurd (false≢true e)
 both false y e = absurd (false≢true e)

@@ -120,11 +120,11 @@ source_is start (change ∷ later) sound = source_is (with_change start change) 
 
 -- ---- as changes
 
-said_both : (xs ys : List Change) (key : Bytes) → last_said (xs ++ ys) key ≡ option_or (last_said ys key) (last_said xs key)
+pub said_both : (xs ys : List Change) (key : Bytes) → last_said (xs ++ ys) key ≡ option_or (last_said ys key) (last_said xs key)
 said_both [] ys key = sym (or_none (last_said ys key))
 said_both (x ∷ xs) ys key = ap (λ (o : Option (Option Bytes)). option_or o (last_said (x ∷ []) key)) (said_both xs ys key) ∙ sym (or_again (last_said ys key) (last_said xs key) (last_said (x ∷ []) key))
 
-said_entries : (entries : List Entry) (key : Bytes) → KeysRise entries → last_said (map Sets entries) key ≡ lookup entries key
+pub said_entries : (entries : List Entry) (key : Bytes) → KeysRise entries → last_said (map Sets entries) key ≡ lookup entries key
 said_entries [] key rises = refl
 said_entries (entry ∷ more) key rises = elim (bytes_eq entry.key key) as (λ t. bytes_eq entry.key key ≡ t → option_or (last_said (map Sets more) key) (cond t (Some entry.value) None) ≡ cond t (Some entry.value) (lookup more key)) [
   | true ↦ λ e. ap (λ (o : Option (Option Bytes)). option_or o (Some entry.value))

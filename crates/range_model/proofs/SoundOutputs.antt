@@ -10,7 +10,7 @@ use Rattle.entry_model.specs.Newest.{ComesBefore, ComesBehind, KeysRise, lookup}
 use Rattle.block_model.specs.Pages.{first_key}
 use Rattle.range_model.specs.Ranges.{DeletedRange, greater_key, lesser_key, range_of, ranges_below, ranges_from}
 use Rattle.range_model.specs.Sources.{BeginsAtOne, IsSource, Source}
-use Rattle.range_model.specs.Outputs.{ComesFrom, all_entries}
+use Rattle.range_model.specs.Outputs.{ComesFrom, HasEntries, all_entries}
 use Rattle.range_model.specs.Laws.{NoRanges, OutputsAre, OutputsAreCut, OutputsHaveBounds}
 use Rattle.range_model.proofs.KeyOrders.{not_before_itself, not_before_less}
 use Rattle.range_model.proofs.RangeLaws.{are_below, are_from, bounds_below, bounds_from, rise_below, rise_from}
@@ -85,6 +85,19 @@ begin_from output rest (range ∷ later) at before first all =
 has_first : (entry : Entry) (later : List Entry) → lookup (entry ∷ later) entry.key ≢ None
 has_first entry later none = let bad : Some entry.value ≡ None = sym (ap (λ (t : Bool). cond t (Some entry.value) (lookup later entry.key)) (same_key entry.key)) ∙ none in cc
 
+-- what lies from the first key of the next output on
+pub rest_is : (output : List Entry) (first : Entry) (next : List Entry) (more : List (List Entry)) (ranges : List DeletedRange) → AllByRecursion HasEntries (output ∷ (first ∷ next) ∷ more)
+    → IsSource (record { entries = all_entries (output ∷ (first ∷ next) ∷ more); ranges = ranges })
+    → IsSource (record { entries = all_entries ((first ∷ next) ∷ more); ranges = ranges_from ranges first.key })
+rest_is output first next more ranges some is =
+    let rest = all_entries ((first ∷ next) ∷ more) in
+    let cut = outputs_are_cut (output ∷ (first ∷ next) ∷ more) some is.rises in record {
+      rises = rises_second output rest is.rises;
+      ranges = are_from ranges first.key is.ranges;
+      apart = rise_from ranges first.key is.apart;
+      begin = begin_from output rest ranges first.key cut.0 (has_first first (next ++ all_entries more)) is.begin;
+    }
+
 pub outputs_are : OutputsAre
 outputs_are [] ranges some is = tt
 outputs_are (output ∷ []) ranges some is = (subst (λ (l : List Entry). IsSource (record { entries = l; ranges = ranges })) (append-nil output) is, tt)
@@ -98,12 +111,7 @@ outputs_are (output ∷ (first ∷ next) ∷ more) ranges some is =
         apart = rise_below ranges first.key is.apart;
         begin = begin_below output rest ranges first.key cut.1 is.begin;
       },
-      outputs_are ((first ∷ next) ∷ more) (ranges_from ranges first.key) some.1 (record {
-        rises = rises_second output rest is.rises;
-        ranges = are_from ranges first.key is.ranges;
-        apart = rise_from ranges first.key is.apart;
-        begin = begin_from output rest ranges first.key cut.0 (has_first first (next ++ all_entries more)) is.begin;
-      }),
+      outputs_are ((first ∷ next) ∷ more) (ranges_from ranges first.key) some.1 (rest_is output first next more ranges some is),
     )
 
 pub outputs_have_bounds : OutputsHaveBounds

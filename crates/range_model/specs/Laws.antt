@@ -1,5 +1,5 @@
 -- Laws of ranges that are deleted: of maps, of ranges, of sources, of outputs, and of what is hidden.
-use Rattle.std.specs.Prelude.{◌≡◌, true, false, not, ◌&&◌, ◌||◌, List, [], ◌∷◌, fold, map, flat_map, None}
+use Rattle.std.specs.Prelude.{◌≡◌, ◌≢◌, true, false, not, ◌&&◌, ◌||◌, List, [], ◌∷◌, fold, map, flat_map, None}
 use Rattle.std.specs.List.{AllByRecursion}
 use Rattle.std.specs.Option.{option_or}
 use Rattle.key_base.specs.ByteOrder.{Bytes, is_before}
@@ -9,7 +9,7 @@ use Rattle.entry_model.specs.Newest.{KeysRise, newest_entries, lookup}
 use Rattle.block_model.specs.Pages.{first_key}
 use Rattle.range_model.specs.Clearing.{lies_within, clear}
 use Rattle.range_model.specs.Ranges.{DeletedRange, IsDeletedRange, HasBounds, IsBound, RangesRise, is_covered, covers, with_range, ranges_below, ranges_from}
-use Rattle.range_model.specs.Sources.{Change, ClearsKeys, IsSource, Source, Sets, changes_in, cleared, first_said, last_said, says, shown, source_of, with_change}
+use Rattle.range_model.specs.Sources.{Change, ClearsKeys, IsSource, Source, Sets, alone, changes_in, cleared, first_said, last_said, says, shown, source_of, with_change}
 use Rattle.range_model.specs.Outputs.{AreCut, HasEntries, all_entries, with_ranges}
 use Rattle.range_model.specs.Reach.{lies_below}
 use Rattle.range_model.specs.ChangedMaps.{map_changed_by, map_of_changes}
@@ -69,7 +69,7 @@ SourceHasBounds =
 
 -- entries alone make their newest ones and no range
 abbrev pub SetsAlone : Type 0
-SetsAlone = (entries : List Entry) → source_of (map Sets entries) ≡ record { entries = newest_entries entries; ranges = [] }
+SetsAlone = (entries : List Entry) → source_of (map Sets entries) ≡ alone (newest_entries entries)
 
 -- the changes that a sound source is make it again
 abbrev pub SourceAgain : Type 0
@@ -124,9 +124,21 @@ OutputsHaveBounds =
     (outputs : List (List Entry)) (ranges : List DeletedRange) → AllByRecursion (λ (output : List Entry). IsBound (first_key output)) outputs
     → AllByRecursion HasBounds ranges → AllByRecursion (λ (s : Source). AllByRecursion HasBounds s.ranges) (with_ranges outputs ranges)
 
+-- each lies below the first key of each later one
+abbrev pub LieApart : List Source → Type 0
+LieApart [] = Unit {0}
+LieApart (s ∷ later) = AllByRecursion (λ (u : Source). lies_below s (first_key u.entries) ≡ true) later × LieApart later
+
+-- so do the outputs of a sound source
+abbrev pub OutputsLieApart : Type 0
+OutputsLieApart =
+    (outputs : List (List Entry)) (ranges : List DeletedRange) → AllByRecursion HasEntries outputs
+    → IsSource (record { entries = all_entries outputs; ranges = ranges })
+    → LieApart (with_ranges outputs ranges)
+
 -- without ranges they are their entries
 abbrev pub NoRanges : Type 0
-NoRanges = (outputs : List (List Entry)) → with_ranges outputs [] ≡ map (λ (output : List Entry). record { entries = output; ranges = [] }) outputs
+NoRanges = (outputs : List (List Entry)) → with_ranges outputs [] ≡ map alone outputs
 
 -- ---- reach
 
@@ -137,6 +149,12 @@ NothingBelow = (s : Source) (key : Bytes) → IsSource s → is_before key (firs
 -- nor of one from a key on below which it lies
 abbrev pub NothingFrom : Type 0
 NothingFrom = (s : Source) (at key : Bytes) → IsSource s → lies_below s at ≡ true → is_before key at ≡ false → says s key ≡ None
+
+-- and where one with entries says nothing from a key on, it lies below that key
+abbrev pub SilentFrom : Type 0
+SilentFrom =
+    (s : Source) (at : Bytes) → IsSource s → s.entries ≢ [] → ((key : Bytes) → is_before key at ≡ false → says s key ≡ None)
+    → lies_below s at ≡ true
 
 -- ---- hiding
 

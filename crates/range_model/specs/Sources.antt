@@ -34,6 +34,10 @@ with_change s (Clears range) = if is_before range.lo range.hi then with_cleared 
 abbrev pub empty_source : Source
 empty_source = record { entries = []; ranges = [] }
 
+-- entries and no range
+abbrev pub alone : List Entry → Source
+alone entries = record { entries = entries; ranges = [] }
+
 abbrev pub source_of : List Change → Source
 source_of changes = fold with_change empty_source changes
 

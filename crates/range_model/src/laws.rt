@@ -1,5 +1,5 @@
 //! The laws of deleted ranges; the functions do nothing.
-ghost use Rattle.range_model.specs.Laws.{ClearLaws, OneRangeMore, RangesAreCut, SourceSays, SourceIs, SourceHasBounds, SetsAlone, SourceAgain, ChangesSay, MapSays, SourceKeepsMap, MergeShows, MergeRises, OutputsSay, OutputsAreCut, OutputsAre, OutputsHaveBounds, NoRanges, NothingBelow, NothingFrom, RowsInSight, PairsInSight, RangesTogether};
+ghost use Rattle.range_model.specs.Laws.{ClearLaws, OneRangeMore, RangesAreCut, SourceSays, SourceIs, SourceHasBounds, SetsAlone, SourceAgain, ChangesSay, MapSays, SourceKeepsMap, MergeShows, MergeRises, OutputsSay, OutputsAreCut, OutputsAre, OutputsHaveBounds, OutputsLieApart, NoRanges, NothingBelow, NothingFrom, SilentFrom, RowsInSight, PairsInSight, RangesTogether};
 
 /// Law: `get` after `clear` gives nothing from its lower key on and below its upper one, and what was there at every other,
 /// and keys keep rising. Crossed or equal keys clear nothing.
@@ -35,19 +35,22 @@ pub fn merged_laws()
 {}
 
 /// Law: outputs of one entry or more, each with its part of the ranges, say what all their entries with all the ranges say,
-/// and are sound where these are. Without ranges they are their entries.
+/// and are sound where these are, each below the first key of the next. Without ranges they are their entries.
 pub fn output_laws()
     ensures cut { OutputsAreCut }
     ensures say { OutputsSay }
     ensures are { OutputsAre }
     ensures bounds { OutputsHaveBounds }
+    ensures apart { OutputsLieApart }
     ensures none { NoRanges }
 {}
 
-/// Law: a sound source says nothing of a key below its first one, nor of one from a key on below which it lies.
+/// Law: a sound source says nothing of a key below its first one, nor of one from a key on below which it lies; and where it
+/// says nothing from a key on, it lies below that key.
 pub fn reach_laws()
     ensures below { NothingBelow }
     ensures from { NothingFrom }
+    ensures silent { SilentFrom }
 {}
 
 /// Law: the newest entries of some sources that no newer range hides are the entries of their merge, and of any sources with

@@ -1,5 +1,6 @@
 use Rattle.range_model.proofs.Outputs.{outputs_say}
 use Rattle.range_model.proofs.SoundOutputs.{no_ranges, outputs_are, outputs_are_cut, outputs_have_bounds}
+use Rattle.range_model.proofs.Silence.{outputs_lie_apart}
 use Rattle.range_model.proofs.laws.output_laws.Goals as goal
 
 pub returns-clause-cut : goal.returns-clause-cut
@@ -16,3 +17,6 @@ returns-clause-bounds c = outputs_have_bounds
 
 pub returns-clause-none : goal.returns-clause-none
 returns-clause-none c = no_ranges
+
+pub returns-clause-apart : goal.returns-clause-apart
+returns-clause-apart c = outputs_lie_apart
