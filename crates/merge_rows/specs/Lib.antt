@@ -18,6 +18,7 @@ pub mod SourcePlaces
 pub mod Steps
 pub mod Reads
 pub mod Filling
+pub mod CatchingUp
 pub mod RowLaws
 pub mod Laws
 pub mod Ends

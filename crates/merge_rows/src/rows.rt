@@ -8,6 +8,7 @@ ghost use Rattle.disk_trait.specs.Image.{Image};
 ghost use Rattle.disk_trait.specs.World.{ReadMoves};
 ghost use Rattle.entry_model.specs.Entries.{Entry, IsEntry, entry_of};
 ghost use Rattle.entry_model.specs.Newest.{KeysRise};
+ghost use Rattle.merge_rows.specs.CatchingUp.{AdvancesBefore, CatchesUpAt};
 ghost use Rattle.merge_rows.specs.Choosing.{heads_of};
 ghost use Rattle.merge_rows.specs.Merges.{TableWalk, merge_from, merged_left, numbered, rows_left, walk_at};
 ghost use Rattle.merge_rows.specs.Reads.{AreAtEnd, HaveReadAll, IsFewer, IsRead, OnlyReads, PassSound, SomeBlock, blocks_left, next_blocks, next_numbers, wanted, wanted_by};
@@ -22,9 +23,10 @@ use crate::choosing::Source;
 use crate::filling::{fill_behind, wants_behind};
 use crate::floor::Floor;
 use crate::memory_source::MemorySource;
-use crate::table_source::{TableSource, has_number};
+use crate::table_source::{TableSource, catch_up_one, has_number};
 use disk_trait::Disk;
 use filter_api::RangeFilter;
+use key_base::compare;
 use mem_table::MemTable;
 use std::alloc::{AllocError, Global};
 use std::marker::Model;
@@ -248,6 +250,47 @@ impl<'m> MergeRows<'m> {
     {
         self.pass_memory();
         self.choose()
+    }
+
+    /// The walk of a place alone goes on to its first entry above the last row, or to its end. Then no row is at hand. No
+    /// memory. Who opens tables late asks for it of those that are open, in place of [`fill`](MergeRows::fill).
+    ///
+    /// At `Err` no row is lost.
+    #[inline(always)]
+    pub fn catch_up_at<F: RangeFilter, D: Disk>(
+        &mut self,
+        disk: &mut D,
+        tables: &Tables<F>,
+        at: usize,
+    ) -> Result<(), TableFault>
+        requires known { AreWalksIn tables.now.tables (stands self.old.walks) }
+        requires there { at < length self.old.walks }
+        ensures { CatchesUpAt D.tells tables.now.tables at self.old self.new result (D.world disk.old) (D.world disk.new) }
+    {
+        self.row = None;
+        catch_up_one(&mut self.walks, at, disk, tables, &self.floor)
+    }
+
+    /// Goes on to the row of the least key at hand where that is below a bound, and answers whether it is: it is then at hand.
+    /// Walks with no entry at hand are passed over. No read and no memory. Each walk that is open has caught up.
+    pub fn advance_before(&mut self, bound: &[u8]) -> bool
+        requires { AreHeadsClear self.old.floor self.old.walks }
+        ensures { AdvancesBefore bound.now self.old self.new result }
+    {
+        self.row = None;
+        self.memory.catch_up(&self.floor);
+        let Some(source) = Source::first(&self.memory, &self.walks) else {
+            return false;
+        };
+        let Some((key, _)) = source.entry(&self.memory, &self.walks) else {
+            return false;
+        };
+        if !compare(key, bound).is_lt() {
+            return false;
+        }
+        self.floor.pass(key);
+        self.row = Some(source);
+        true
     }
 
     /// Whether the table of a number is one of those that are merged.

@@ -6,6 +6,7 @@ ghost use Rattle.block_model.specs.Places.{byte_of_page};
 ghost use Rattle.disk_trait.specs.World.{ReadMoves};
 ghost use Rattle.entry_model.specs.Entries.{IsEntry, entry_of};
 ghost use Rattle.key_base.specs.ByteOrder.{is_before};
+ghost use Rattle.merge_rows.specs.CatchingUp.{CatchesUp, CatchesUpOne};
 ghost use Rattle.merge_rows.specs.Filling.{AsksWalks, FillsWalks};
 ghost use Rattle.merge_rows.specs.Leads.{key_at_hand, lead_of};
 ghost use Rattle.merge_rows.specs.Merges.{blocks_in, left_above, numbered, walk_at, walk_left, with_hand};
@@ -248,6 +249,32 @@ impl TableSource {
             Err(why) => Err(why),
         }
     }
+
+    /// Goes on to its first entry above the floor, or to its end. No memory.
+    ///
+    /// At `Err` no entry above the floor is lost.
+    //
+    // Most walks lead, and are at it: the question goes into each step, the rest into none.
+    #[inline(always)]
+    pub(crate) fn catch_up<F: RangeFilter, D: Disk>(
+        &mut self,
+        disk: &mut D,
+        tables: &Tables<F>,
+        floor: &Floor,
+    ) -> Result<(), TableFault>
+        requires there { self.old.number < length tables.now.tables }
+        requires room { HasRoomFor (numbered tables.now.tables self.old.number) self.old.walk.room }
+        ensures { CatchesUp D.tells floor.now tables.now.tables self.old self.new result (D.world disk.old) (D.world disk.new) }
+    {
+        while !self.leads(floor) {
+            match self.fill(disk, tables, floor) {
+                Ok(true) => {}
+                Ok(false) => return Ok(()),
+                Err(why) => return Err(why),
+            }
+        }
+        Ok(())
+    }
 }
 
 /// One of the walks passes over the entries in memory that are not above the floor. No read and no memory: each of them wants a
@@ -265,6 +292,24 @@ pub(crate) fn pass_one<F: RangeFilter, D: Disk>(
     ensures moves { ReadMoves 0 (D.world disk.old) (D.world disk.new) }
 {
     walks[at].pass(disk, tables, floor);
+}
+
+/// One of the walks goes on to its first entry above the floor, or to its end. No memory.
+///
+/// At `Err` no entry above the floor is lost.
+#[inline(always)]
+pub(crate) fn catch_up_one<F: RangeFilter, D: Disk>(
+    walks: &mut [TableSource],
+    at: usize,
+    disk: &mut D,
+    tables: &Tables<F>,
+    floor: &Floor,
+) -> Result<(), TableFault>
+    requires known { AreWalksIn tables.now.tables (stands walks.old) }
+    requires there { at < length walks.old }
+    ensures { CatchesUpOne D.tells floor.now tables.now.tables at walks.old walks.new result (D.world disk.old) (D.world disk.new) }
+{
+    walks[at].catch_up(disk, tables, floor)
 }
 
 /// Reads a block for the first of the walks that wants one, and answers whether it read. If not, each walk has an entry above

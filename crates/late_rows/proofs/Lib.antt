@@ -1,0 +1,9 @@
+pub mod Awake
+pub mod Least
+pub mod Sooner
+pub mod Going
+pub mod Turns
+pub mod Composed
+pub mod Handing
+pub mod Ending
+pub mod Standing
