@@ -1,5 +1,5 @@
 -- What a builder takes, and why it refuses a pair.
-use Rattle.std.specs.Prelude.{◌≡◌, ◌==◌, nat_lt, not, Bool, true, ◌||◌, if◌then◌else◌, List, [], ◌∷◌, length, Option, Some, None, Result, Ok, Err}
+use Rattle.std.specs.Prelude.{◌==◌, nat_lt, not, Bool, true, ◌||◌, if◌then◌else◌, List, [], ◌∷◌, length, Option, Some, None, Result, Ok, Err}
 use Rattle.fst_map.specs.declared.error.AddError.{AddError}
 use Rattle.fst_map.specs.declared.error.AddError.TheVariants as error
 use Rattle.map_model.specs.Slices.{is_before}
@@ -29,7 +29,3 @@ fault_said (Err (error.Key n)) = Some (error.Key n)
 fault_said (Err (error.Value n)) = Some (error.Value n)
 fault_said (Err error.Order) = Some error.Order
 fault_said (Err error.Many) = Some error.Many
-
--- as many keys as values
-pub record IsAdded (keys values : List Bytes) : Type 0 where
-  pub as_many : length keys ≡ length values

@@ -1,9 +1,11 @@
 //! A map that is built pair by pair.
-ghost use Rattle.std.specs.Prelude.{◌≡◌, ◌++◌, ◌∷◌, [], length, None, OnErr, OnOk};
+ghost use Rattle.std.specs.Prelude.{◌≡◌, ◌≤◌, ◌++◌, ◌∷◌, [], length, IfErr, None, OnErr, OnOk};
 ghost use Rattle.fst_map.specs.Adding.{add_fault, fault_said, is_above};
+ghost use Rattle.map_writer.specs.Bodies.{IsCause, body_by, max_body_bytes};
 
 use crate::error::AddError;
 use key_base::{KeyList, MAX_KEY_BYTES, compare};
+use map_writer::{FinishError, write_body};
 use std::alloc::Global;
 use std::marker::Model;
 
@@ -16,20 +18,21 @@ const MAX_PAIRS: usize = 1_000_000;
 /// The pairs of a map to be, in the order of their keys.
 #[derive(Drop)]
 pub struct FstBuilder {
+    alloc: Global,
     keys: KeyList,
     values: KeyList,
 }
 
 impl Model for FstBuilder {
     ghost use Rattle.std.specs.Prelude.{zip};
-    ghost use Rattle.fst_map.specs.Adding.{IsAdded};
     ghost use Rattle.map_model.specs.SortedMap.{Map};
+    ghost use Rattle.map_writer.specs.Bodies.{ArePairs};
 
     ghost Value = { Map };
 
     ghost view = { λ b. zip b.keys b.values };
 
-    ghost invariant = { λ b. IsAdded b.keys b.values };
+    ghost invariant = { λ b. ArePairs b.keys b.values };
 }
 
 impl FstBuilder {
@@ -38,6 +41,7 @@ impl FstBuilder {
         ensures { result ≡ [] }
     {
         FstBuilder {
+            alloc,
             keys: KeyList::new(alloc),
             values: KeyList::new(alloc),
         }
@@ -57,6 +61,21 @@ impl FstBuilder {
             return Err(error);
         }
         self.push(key, value)
+    }
+
+    /// Appends the bytes of the map of all pairs, which [`crate::FstMap::read`] takes, with as many levels of its trie dense as
+    /// the rule allows by `ratio`; 64 is usual, and 0 makes all of them dense.
+    ///
+    /// Fails where there is no pair, where the bytes would be more than 2^31, or for want of memory; `out` stays as it was then.
+    /// The pairs stay, so that it may be called again. Goes over the letters of all keys twice, and over the bytes once.
+    pub fn finish(&self, ratio: u16, out: &mut Vec<u8>) -> Result<(), FinishError>
+        ensures some { OnOk result (1 ≤ length self.now) }
+        ensures added { OnOk result (out.new.items ≡ out.old.items ++ body_by ratio self.now) }
+        ensures not_large { OnOk result (length (body_by ratio self.now) ≤ max_body_bytes) }
+        ensures unchanged { OnErr result (out.new.items ≡ out.old.items) }
+        ensures cause { IfErr result (IsCause ratio self.now) }
+    {
+        write_body(self.alloc, &self.keys, &self.values, ratio, out)
     }
 
     /// How many pairs there are.
@@ -93,8 +112,9 @@ impl FstBuilder {
         count == 0 || compare(self.keys.get(count - 1), key).is_lt()
     }
 
-    // Adds a pair behind all others, if there is memory.
+    // Adds a pair that is not refused behind all others, if there is memory.
     fn push(&mut self, key: &[u8], value: &[u8]) -> Result<(), AddError>
+        requires { add_fault self.old key.now value.now ≡ None }
         ensures added { OnOk result (self.new ≡ self.old ++ (key.now, value.now) ∷ []) }
         ensures unchanged { OnErr result (self.new ≡ self.old) }
         ensures refused { fault_said result ≡ None }

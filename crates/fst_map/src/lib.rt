@@ -17,6 +17,11 @@
 //! map.get(b"ab")               // Some: 02
 //! map.get(b"abc")              // None
 //! map.count(b"ab", b"b")       // 1
+//!
+//! let mut builder = FstBuilder::new(alloc);
+//! builder.add(b"a", &[1])?;
+//! builder.add(b"ab", &[2])?;
+//! builder.finish(64, &mut out)?;     // those bytes
 //! ```
 #![tactic(auto)]
 
@@ -31,3 +36,4 @@ pub use builder::FstBuilder;
 pub use cursor::FstCursor;
 pub use error::{AddError, FstError};
 pub use map::FstMap;
+pub use map_writer::FinishError;

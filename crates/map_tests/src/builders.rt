@@ -1,5 +1,6 @@
 //! What a builder takes and what it refuses.
 
+use super::building::number_key;
 use fst_map::{AddError, FstBuilder};
 use std::test::Fail;
 
@@ -22,5 +23,17 @@ fn the_first_fault_of_a_pair_is_said(rt: HostRuntime) -> Result<(), Fail> {
     assert!(rt; builder.add(&longest, largest.as_slice()) == Err(AddError::Order));
     assert!(rt; builder.add(b"b\x00", largest.as_slice()) == Ok(()));
     assert!(rt; builder.len() == 2);
+    Ok(())
+}
+
+#[test]
+fn a_million_pairs_are_taken_and_no_more(rt: HostRuntime) -> Result<(), Fail> {
+    let mut builder = FstBuilder::new(rt.alloc());
+    for number in 0..1_000_000 {
+        assert!(rt; builder.add(&number_key(number), b"") == Ok(()));
+    }
+    assert!(rt; builder.add(&number_key(1_000_000), b"") == Err(AddError::Many));
+    assert!(rt; builder.add(&number_key(7), b"") == Err(AddError::Order));
+    assert!(rt; builder.len() == 1_000_000);
     Ok(())
 }

@@ -8,7 +8,7 @@ use std::test::Fail;
 use test_kit::boxed;
 
 // A cursor at the first key that is not below a bound, if there is one.
-fn start<'a>(
+pub(crate) fn start<'a>(
     alloc: &'a Global,
     map: &'a FstMap<'_, Global>,
     lo: &[u8],

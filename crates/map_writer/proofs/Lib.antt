@@ -1,0 +1,5 @@
+pub mod Orders
+pub mod Slots
+pub mod Growing
+pub mod Sizes
+pub mod Tries

@@ -1,0 +1,5 @@
+pub mod Sizes
+pub mod Passing
+pub mod Levels
+pub mod OneSpan
+pub mod Whole
