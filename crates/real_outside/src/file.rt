@@ -5,7 +5,7 @@ ghost use Rattle.real_outside.specs.Numbers.{IsNoStream};
 use std::fs::{self, File, OpenOptions, TryLockError};
 use std::io::{self, ErrorKind};
 use std::os::fd::AsRawFd;
-use std::os::unix::fs::FileExt;
+use std::os::unix::fs::{FileExt, FileTypeExt};
 
 /// How often a read or a write that a signal interrupts is tried, until it counts as failed.
 pub const TRIES: u32 = 1000;
@@ -20,25 +20,49 @@ const AFTER_STANDARD_STREAMS: i32 = 3;
 pub fn open_file(rt: &HostRuntime, path: &str) -> io::Result<File>
     ensures { IfOk result IsNoStream }
 {
-    let file = OpenOptions::new()
-        .read(true)
-        .write(true)
-        .create(true)
-        .open(rt, path)?;
-    // Where a standard stream was closed, its number is the file's, and replies would be written over the device.
-    if file.as_raw_fd() < AFTER_STANDARD_STREAMS {
-        return Err(io::Error::from(ErrorKind::Other));
-    }
-    lock(&file)?;
+    let file = beside_streams(
+        OpenOptions::new()
+            .read(true)
+            .write(true)
+            .create(true)
+            .open(rt, path)?,
+    )?;
+    locked(file.try_lock())?;
     if file.metadata()?.len() == 0 {
         sync_directory_of(rt, path)?;
     }
     Ok(file)
 }
 
-// Keeps other processes off. A file system without locks keeps off none, which is no fault.
-fn lock(file: &File) -> io::Result<()> {
-    match file.try_lock() {
+/// The file at the path, opened only to be read, and locked against writers until it is closed. None is made.
+///
+/// It fails where no file is there, where it is a pipe, where another opening has it to write, and where it would be a
+/// standard stream.
+pub fn open_to_read(rt: &HostRuntime, path: &str) -> io::Result<File>
+    ensures { IfOk result IsNoStream }
+{
+    // To open a pipe would wait until another process writes to it.
+    if fs::metadata(rt, path)?.file_type().is_fifo() {
+        return Err(io::Error::from(ErrorKind::InvalidInput));
+    }
+    let file = beside_streams(OpenOptions::new().read(true).open(rt, path)?)?;
+    locked(file.try_lock_shared())?;
+    Ok(file)
+}
+
+// The file, unless it has the number of a standard stream that was closed: replies would be written over the device.
+fn beside_streams(file: File) -> io::Result<File>
+    ensures { IfOk result IsNoStream }
+{
+    if file.as_raw_fd() < AFTER_STANDARD_STREAMS {
+        return Err(io::Error::from(ErrorKind::Other));
+    }
+    Ok(file)
+}
+
+// Whether no other opening is in the way. A file system without locks keeps off none, which is no fault.
+fn locked(answer: Result<(), TryLockError>) -> io::Result<()> {
+    match answer {
         Err(TryLockError::WouldBlock) => Err(io::Error::from(ErrorKind::WouldBlock)),
         _ => Ok(()),
     }

@@ -10,6 +10,7 @@
 //! ```text
 //! let mut outside = FileOutside::at(process, path);      // the file is made at the first disk call
 //! surf_run::run(alloc, words, &mut outside)              // serves standard input
+//! let mut copy = FileOutside::reading(process, path);    // no file is made, and none is written
 //! ```
 #![tactic(auto)]
 

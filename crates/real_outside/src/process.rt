@@ -8,7 +8,7 @@ ghost use Rattle.outside.specs.Streams.{TakeMoves, SayMoves};
 ghost use Rattle.real_outside.specs.Numbers.{IsNoStream};
 ghost use Rattle.real_outside.specs.Untold.{CountsStay};
 
-use crate::file::{TRIES, is_interrupted, open_file, read_all, write_all};
+use crate::file::{TRIES, is_interrupted, open_file, open_to_read, read_all, write_all};
 use disk_trait::{Disk, DiskFault, Op};
 use outside::{Outside, SayFault, TakeFault};
 use std::fs::File;
@@ -20,10 +20,13 @@ use std::io::{self, ErrorKind, Read, Write};
 /// It tells no content. It counts its faults, of reads, of writes and syncs, of input and of output. A file that cannot
 /// be opened, that another opening has locked, or that would get the number of a standard stream is a fault of the call
 /// that needed it, and the next call tries again. A file that is made has its directory synced before that call is done.
+///
+/// Made by [`reading`](FileOutside::reading) it makes no file and writes none: each write and each sync is a fault.
 #[derive(Drop)]
 pub struct FileOutside {
     rt: HostRuntime,
     path: String,
+    read_only: bool,
     file: Option<File>,
     read_faults: u64,
     write_faults: u64,
@@ -33,6 +36,7 @@ pub struct FileOutside {
 }
 
 impl FileOutside {
+    ghost use Rattle.std.specs.Prelude.{true};
     ghost use Rattle.real_outside.specs.Untold.{IsUntouched};
 
     /// The outside over the file at this path. Nothing is opened or made yet, and no call has failed.
@@ -42,6 +46,25 @@ impl FileOutside {
         FileOutside {
             rt,
             path,
+            read_only: false,
+            file: None,
+            read_faults: 0,
+            write_faults: 0,
+            take_faults: 0,
+            say_faults: 0,
+        }
+    }
+
+    /// The outside over a file that is only read: it is not made where it is not there, it may be one that nobody may
+    /// write, others may read it meanwhile, and each write and each sync fails.
+    pub fn reading(rt: HostRuntime, path: String) -> Self
+        ensures untouched { IsUntouched (⟦<FileOutside as Disk>⟧.world result) }
+        ensures read_only { result.read_only ≡ true }
+    {
+        FileOutside {
+            rt,
+            path,
+            read_only: true,
             file: None,
             read_faults: 0,
             write_faults: 0,
@@ -51,13 +74,29 @@ impl FileOutside {
     }
 }
 
+// Opens the file, only to be read or to be written too.
+fn open_for(rt: &HostRuntime, path: &str, read_only: bool) -> io::Result<File>
+    ensures { IfOk result IsNoStream }
+{
+    if read_only {
+        open_to_read(rt, path)
+    } else {
+        open_file(rt, path)
+    }
+}
+
 // Opens the file where it is not open yet.
-fn open_once(rt: &HostRuntime, path: &String, file: &mut Option<File>) -> io::Result<()>
+fn open_once(
+    rt: &HostRuntime,
+    path: &String,
+    read_only: bool,
+    file: &mut Option<File>,
+) -> io::Result<()>
     requires { ForSome file.old IsNoStream }
     ensures { ForSome file.new IsNoStream }
 {
     if file.is_none() {
-        *file = Some(open_file(rt, path.as_str())?);
+        *file = Some(open_for(rt, path.as_str(), read_only)?);
     }
     Ok(())
 }
@@ -79,8 +118,9 @@ impl Disk for FileOutside {
         ensures cause { OnErr result (Rose self.old.read_faults self.new.read_faults) }
         // Beside what any disk promises: a call that is done moves no count, here and in each call below.
         ensures still { OnOk result (CountsStay (shown self.old) (shown self.new)) }
+        ensures keeps { self.new.read_only ≡ self.old.read_only }
     {
-        let opening = open_once(&self.rt, &self.path, &mut self.file);
+        let opening = open_once(&self.rt, &self.path, self.read_only, &mut self.file);
         let done = match (opening, &self.file) {
             (Ok(()), Some(file)) => read_all(file, at, into).is_ok(),
             _ => false,
@@ -95,13 +135,15 @@ impl Disk for FileOutside {
     fn write(&mut self, at: u64, from: &[u8]) -> Result<(), DiskFault>
         requires { at + length from.now ≤ 2 ^ 48 }
         ensures moves { WriteMoves at (length from.now) (shown self.old) (shown self.new) }
+        ensures may_write { OnOk result (self.old.read_only ≡ false) }
         ensures fault { IfErr result (IsFaultOf Write at) }
         ensures cause { OnErr result (Rose self.old.write_faults self.new.write_faults) }
         ensures still { OnOk result (CountsStay (shown self.old) (shown self.new)) }
+        ensures keeps { self.new.read_only ≡ self.old.read_only }
     {
-        let opening = open_once(&self.rt, &self.path, &mut self.file);
+        let opening = open_once(&self.rt, &self.path, self.read_only, &mut self.file);
         let done = match (opening, &self.file) {
-            (Ok(()), Some(file)) => write_all(file, at, from).is_ok(),
+            (Ok(()), Some(file)) if !self.read_only => write_all(file, at, from).is_ok(),
             _ => false,
         };
         if done {
@@ -114,13 +156,15 @@ impl Disk for FileOutside {
     // The file grows as it is written, so its length must last too: all of it is synced, not its data alone.
     fn sync(&mut self) -> Result<(), DiskFault>
         ensures moves { SyncMoves (shown self.old) (shown self.new) }
+        ensures may_write { OnOk result (self.old.read_only ≡ false) }
         ensures fault { IfErr result (IsFaultOf Sync 0) }
         ensures cause { OnErr result (Rose self.old.write_faults self.new.write_faults) }
         ensures still { OnOk result (CountsStay (shown self.old) (shown self.new)) }
+        ensures keeps { self.new.read_only ≡ self.old.read_only }
     {
-        let opening = open_once(&self.rt, &self.path, &mut self.file);
+        let opening = open_once(&self.rt, &self.path, self.read_only, &mut self.file);
         let done = match (opening, &self.file) {
-            (Ok(()), Some(file)) => file.sync_all().is_ok(),
+            (Ok(()), Some(file)) if !self.read_only => file.sync_all().is_ok(),
             _ => false,
         };
         if done {
@@ -174,6 +218,7 @@ impl Outside for FileOutside {
         ensures moves { TakeMoves (shown self.old) (shown self.new) }
         ensures cause { OnErr result (Rose self.old.take_faults self.new.take_faults) }
         ensures still { OnOk result (CountsStay (shown self.old) (shown self.new)) }
+        ensures keeps { self.new.read_only ≡ self.old.read_only }
     {
         match take_some(&self.rt, into) {
             Ok(count) => Ok(count),
@@ -191,6 +236,7 @@ impl Outside for FileOutside {
         ensures moves { SayMoves (shown self.old) (shown self.new) }
         ensures cause { OnErr result (Rose self.old.say_faults self.new.say_faults) }
         ensures still { OnOk result (CountsStay (shown self.old) (shown self.new)) }
+        ensures keeps { self.new.read_only ≡ self.old.read_only }
     {
         match say_some(&self.rt, from) {
             Ok(count) if count > 0 => Ok(count),

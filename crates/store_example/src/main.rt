@@ -23,7 +23,8 @@ const SETTINGS: Settings = Settings {
 
 const PAGES: u64 = 512;
 
-const LONGEST_VALUE: usize = 65_536;
+// The longest value that is logged; a longer one, of up to 1,048,576 bytes, becomes a table at once.
+const VALUE_BYTES: usize = 65_536;
 
 fn main(rt: HostRuntime) -> Result<()> {
     let alloc = rt.alloc();
@@ -90,7 +91,7 @@ fn print_keys(rt: &impl Print, disk: &mut FileOutside, store: &FileStore) -> Res
 // Puts long values until there is no room. A full device refuses the put, and keeps all that it has.
 fn fill(rt: &impl Print, alloc: Global, disk: &mut FileOutside) -> Result<()> {
     let mut store = open(alloc, disk)?;
-    let value = vec![in alloc; 7; LONGEST_VALUE]?;
+    let value = vec![in alloc; 7; VALUE_BYTES]?;
     for key in 1..100u8 {
         match store.put(disk, &[key], &value) {
             Ok(()) => {}
