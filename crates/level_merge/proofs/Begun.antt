@@ -16,7 +16,7 @@ use Rattle.filter_api.specs.Spellings.{Spelling}
 use Rattle.filter_api.specs.declared.settings.Settings.{Settings}
 use Rattle.key_base.specs.ByteOrder.{is_before}
 use Rattle.level_merge.specs.FollowLaws.{BegunFollows, CompactionMakes, MergeBegins}
-use Rattle.level_merge.specs.TablesAgree.{TableAgrees, TablesAgree}
+use Rattle.store_search.specs.TablesAgree.{TableAgrees, TablesAgree}
 use Rattle.level_merge.specs.Making.{OutputsLeft}
 use Rattle.level_merge.specs.JobValue.{all_numbers, begun, compaction, merge_of, outputs_with}
 use Rattle.level_merge.specs.Plans.{numbered}

@@ -14,7 +14,7 @@ use Rattle.extent_model.specs.Gaps.{first_gap, largest_gap}
 use Rattle.filter_api.specs.Spellings.{Spelling}
 use Rattle.filter_api.specs.declared.settings.Settings.{Settings}
 use Rattle.level_merge.specs.Follows.{AreTaken, Follows, FollowsAnyJob, IsJobRefusal, IsSliced, JobProgress, ProgressOrRefusal}
-use Rattle.level_merge.specs.TablesAgree.{TablesAgree}
+use Rattle.store_search.specs.TablesAgree.{TablesAgree}
 use Rattle.level_merge.specs.Making.{AnswersProgress, AreTakenBy, FirstOutput, GoesOn, HasPlace, IsMakeRefusal, IsMoreLeft, MakesAnyOutputs, OneOutput, OutputsLeft, merge_extents}
 use Rattle.level_merge.specs.JobValue.{JobValue}
 use Rattle.level_merge.specs.Plans.{numbered}

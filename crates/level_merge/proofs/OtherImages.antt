@@ -12,7 +12,7 @@ use Rattle.entry_model.specs.Entries.{Entry, keys_of}
 use Rattle.filter_api.specs.Spellings.{Spelling}
 use Rattle.key_base.specs.ByteOrder.{is_before}
 use Rattle.level_merge.specs.FollowLaws.{OtherImageIsFollowed}
-use Rattle.level_merge.specs.TablesAgree.{TableAgrees, TablesAgree}
+use Rattle.store_search.specs.TablesAgree.{TableAgrees, TablesAgree}
 use Rattle.level_merge.specs.JobValue.{JobValue, outputs_left, outputs_with}
 use Rattle.map_model.specs.SortedMap.{Bytes}
 use Rattle.merge_rows.specs.Merges.{Merge, TableWalk, blocks_in, left_above, with_hand}

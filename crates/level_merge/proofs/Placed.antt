@@ -20,7 +20,7 @@ use Rattle.extent_model.specs.Gaps.{first_gap}
 use Rattle.filter_api.specs.Spellings.{Spelling}
 use Rattle.filter_api.specs.declared.settings.Settings.{Settings}
 use Rattle.filter_model.specs.Leaves.{Leaf}
-use Rattle.level_merge.specs.TablesAgree.{TableAgrees}
+use Rattle.store_search.specs.TablesAgree.{TableAgrees}
 use Rattle.level_merge.specs.Outputs.{PlacesOutput, WritesPlaced, built_table, extent_at, last_row, no_row}
 use Rattle.map_model.specs.SortedMap.{Bytes}
 use Rattle.table_file.specs.Building.{Built}

@@ -20,7 +20,7 @@ use Rattle.extent_model.specs.Gaps.{first_gap}
 use Rattle.filter_api.specs.Spellings.{Spelling}
 use Rattle.filter_api.specs.declared.settings.Settings.{Settings}
 use Rattle.filter_model.specs.Leaves.{Leaf}
-use Rattle.level_merge.specs.TablesAgree.{TableAgrees, TablesAgree}
+use Rattle.store_search.specs.TablesAgree.{TableAgrees, TablesAgree}
 use Rattle.level_merge.specs.Making.{AnswersProgress, AreTakenBy, GoesOn, IsMakeRefusal, OutputsLeft, SliceOf, merge_extents}
 use Rattle.level_merge.specs.JobValue.{AreAllWritten, JobValue, is_full, outputs_left, outputs_with}
 use Rattle.level_merge.specs.SliceSteps.{Closes, IsTakeFault, LooksOn, TakesRows, made_opened, made_table, need_of}

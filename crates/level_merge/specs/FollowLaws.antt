@@ -7,7 +7,7 @@ use Rattle.entry_model.specs.Newest.{KeysRise, newest_entries}
 use Rattle.filter_api.specs.Spellings.{Spelling}
 use Rattle.filter_api.specs.declared.settings.Settings.{Settings}
 use Rattle.level_merge.specs.Follows.{Follows}
-use Rattle.level_merge.specs.TablesAgree.{TablesAgree}
+use Rattle.store_search.specs.TablesAgree.{TablesAgree}
 use Rattle.level_merge.specs.Making.{OutputsLeft}
 use Rattle.level_merge.specs.JobValue.{JobValue, begun, compaction, merge_of}
 use Rattle.level_merge.specs.Plans.{IsPlanOf, MayStart, PlanByNumbers, numbered}

@@ -6,7 +6,7 @@ use Rattle.disk_trait.specs.World.{Now, Rose, World}
 use Rattle.disk_trait.specs.declared.fault.Op.TheVariants.{Read}
 use Rattle.extent_map.specs.Taken.{Taken}
 use Rattle.filter_api.specs.Spellings.{Spelling}
-use Rattle.level_merge.specs.TablesAgree.{TablesAgree}
+use Rattle.store_search.specs.TablesAgree.{TablesAgree}
 use Rattle.level_merge.specs.Making.{OutputsLeft}
 use Rattle.level_merge.specs.JobValue.{JobValue}
 use Rattle.level_merge.specs.Plans.{numbered}

@@ -1,5 +1,6 @@
 pub use Rattle.table_file.specs.Opened
 pub use Rattle.table_file.specs.TableLists
+pub use Rattle.store_search.specs.TablesAgree
 pub use Rattle.state_model.specs.Merges
 pub use Rattle.entry_model.specs.Entries
 pub use Rattle.filter_api.specs.Ranges
@@ -11,7 +12,6 @@ pub mod Outlines
 pub mod JobValue
 pub mod Outputs
 pub mod SliceSteps
-pub mod TablesAgree
 pub mod Making
 pub mod SliceContract
 pub mod Follows

@@ -10,7 +10,7 @@ use Rattle.extent_model.specs.Extents.{Extent}
 use Rattle.extent_model.specs.Gaps.{first_gap, largest_gap}
 use Rattle.filter_api.specs.Spellings.{Spelling}
 use Rattle.filter_api.specs.declared.settings.Settings.{Settings}
-use Rattle.level_merge.specs.TablesAgree.{TablesAgree}
+use Rattle.store_search.specs.TablesAgree.{TablesAgree}
 use Rattle.level_merge.specs.JobValue.{AreAllWritten, JobValue, outputs_left}
 use Rattle.level_merge.specs.Outputs.{extent_at}
 use Rattle.level_merge.specs.declared.fault.JobFault.{JobFault}

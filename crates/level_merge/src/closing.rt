@@ -4,7 +4,7 @@ ghost use Rattle.std.specs.List.{AllByRecursion};
 ghost use Rattle.block_model.specs.Order.{Follow, is_any};
 ghost use Rattle.disk_trait.specs.World.{Now};
 ghost use Rattle.entry_model.specs.Entries.{IsEntry, keys_of};
-ghost use Rattle.level_merge.specs.TablesAgree.{TableAgrees};
+ghost use Rattle.store_search.specs.TablesAgree.{TableAgrees};
 ghost use Rattle.level_merge.specs.Outputs.{IsCloseFault, PlacesOutput, WritesPlaced, built_table, last_row};
 ghost use Rattle.table_file.specs.Writing.{opened_of};
 ghost use Rattle.table_model.specs.Tables.{filter_bytes_of, table_pages};

@@ -6,7 +6,7 @@ ghost use Rattle.disk_trait.specs.World.{Now, ReadMoves};
 ghost use Rattle.entry_model.specs.Entries.{IsEntry};
 ghost use Rattle.filter_api.specs.Ranges.{InRange};
 ghost use Rattle.level_merge.specs.Follows.{FollowsAnyJob};
-ghost use Rattle.level_merge.specs.TablesAgree.{TableAgrees};
+ghost use Rattle.store_search.specs.TablesAgree.{TableAgrees};
 ghost use Rattle.level_merge.specs.JobValue.{begun, compaction, merge_of};
 ghost use Rattle.level_merge.specs.Plans.{MayStart};
 ghost use Rattle.level_merge.specs.SliceSteps.{Closes, IsStop, IsTakeFault, LooksOn, PassesBlocks, ReadyAtEnd, StopsAtEnd, TakesRows, WritesOutput, made_opened, made_table, need_of};

@@ -8,7 +8,7 @@ use Rattle.disk_trait.specs.World.{World}
 use Rattle.extent_model.specs.Extents.{Extent}
 use Rattle.filter_api.specs.Spellings.{Spelling}
 use Rattle.image_model.specs.Stands.{settings_of}
-use Rattle.level_merge.specs.TablesAgree.{TablesAgree}
+use Rattle.store_search.specs.TablesAgree.{TablesAgree}
 use Rattle.level_merge.specs.JobValue.{JobValue}
 use Rattle.manifest.specs.Manifest.{Manifest}
 use Rattle.manifest_model.specs.Rows as rows

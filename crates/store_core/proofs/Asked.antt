@@ -14,18 +14,19 @@ use Rattle.map_model.specs.SortedMap.{Bytes}
 use Rattle.state_model.specs.Bounds.{get_bound, searched, unless_found}
 use Rattle.state_model.specs.State.{State}
 use Rattle.state_model.specs.View.{first_found, memory, view}
-use Rattle.store_core.specs.Caching.{AreNumbered, CacheAgrees, Cached, unkept, unkept_named}
+use Rattle.store_search.specs.Caching.{AreNumbered, CacheAgrees, Cached, unkept, unkept_named}
 use Rattle.store_core.specs.Faults.{of_table_fault}
-use Rattle.store_core.specs.Getting.{Asked, GetsKey, IsFaultIn, IsGetRefusal, IsLookFault, IsMet, IsShown, IsUndamaged, entries_by_table, said_at, said_in, unkept_bound}
+use Rattle.store_core.specs.Getting.{Asked, GetsKey, IsGetRefusal, IsMet, IsShown, IsUndamaged, said_at, unkept_bound}
+use Rattle.store_search.specs.Searching.{IsFaultIn, IsLookFault, entries_by_table, said_in}
 use Rattle.store_core.specs.StoreValue.{IsConsistent, StoreValue}
-use Rattle.level_merge.specs.TablesAgree.{TablesAgree}
+use Rattle.store_search.specs.TablesAgree.{TablesAgree}
 use Rattle.store_core.specs.Represents.{Represents}
 use Rattle.store_core.specs.declared.error.StoreError.{StoreError}
 use Rattle.store_core.specs.declared.getting.Place.{Place}
-use Rattle.store_core.specs.declared.getting.Spot.{Spot}
-use Rattle.store_core.proofs.Caches.{left_itself}
-use Rattle.store_core.proofs.Lookings.{named_few, none_of}
-use Rattle.store_core.proofs.ReadBounds.{bound_is}
+use Rattle.store_search.specs.declared.searching.Spot.{Spot}
+use Rattle.store_search.proofs.Caches.{left_itself}
+use Rattle.store_search.proofs.Lookings.{named_few, none_of}
+use Rattle.store_search.proofs.ReadBounds.{bound_is}
 use Rattle.store_core.proofs.ShownBlocks.{told_fault}
 use Rattle.store_core.proofs.Ties.{tied_read}
 use Rattle.table_file.specs.Faults.{IsNoDamage}

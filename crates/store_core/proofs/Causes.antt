@@ -18,7 +18,7 @@ use Rattle.table_file.specs.declared.fault.TableFault.TheVariants as table
 use Rattle.store_core.specs.Answers.{is_write}
 use Rattle.store_core.specs.Faults.{of_log_fault, of_manifest_fault, of_table_fault}
 use Rattle.store_core.specs.Formatting.{IsMakeFault}
-use Rattle.store_core.specs.Getting.{ReadRose}
+use Rattle.store_search.specs.Searching.{ReadRose}
 use Rattle.store_core.specs.Opening.{FaultRose, IsOpenFault, IsOpenRefusal}
 use Rattle.store_core.specs.declared.error.StoreError.{StoreError}
 use Rattle.store_core.specs.declared.error.StoreError.TheVariants as error

@@ -11,7 +11,7 @@ use Rattle.filter_api.specs.Spellings.{Spelling}
 use Rattle.image_model.proofs.Frames.{ready_is_state}
 use Rattle.image_model.specs.Stands.{StandsForMap}
 use Rattle.key_base.specs.Limits.{last_epoch}
-use Rattle.level_merge.specs.TablesAgree.{TablesAgree}
+use Rattle.store_search.specs.TablesAgree.{TablesAgree}
 use Rattle.line_model.specs.Replies.{LastEpoch, Reply}
 use Rattle.line_model.specs.Replies as reply
 use Rattle.line_model.specs.Requests.{Compact}
@@ -30,7 +30,7 @@ use Rattle.table_file.specs.Opened.{Opened}
 use Rattle.table_model.specs.Tables.{FilterBytes, Table}
 use Rattle.store_core.specs.Answers.{AnswersRequest, HasCause, stops, told}
 use Rattle.store_core.specs.Compacting.{FailsSo, IsFailedCall, IsHeldBy, IsInstalledWhole, StandAlone, compact_tables, compacted_into}
-use Rattle.store_core.specs.Caching.{AreNumbered, CacheAgrees, Cached}
+use Rattle.store_search.specs.Caching.{AreNumbered, CacheAgrees, Cached}
 use Rattle.store_core.specs.StoreValue.{IsConsistent, StoreValue}
 use Rattle.store_core.specs.Running.{MayRunIn, RunsAs}
 use Rattle.store_core.specs.Represents.{Represents, RepresentsOn}

@@ -13,7 +13,7 @@ use Rattle.image_model.proofs.Frames.{other_log_apart, ready_is_state}
 use Rattle.image_model.proofs.Placed.{behind_logs}
 use Rattle.image_model.specs.Stands.{IsReady, StandsForMap}
 use Rattle.key_base.specs.Limits.{last_epoch}
-use Rattle.level_merge.specs.TablesAgree.{TablesAgree}
+use Rattle.store_search.specs.TablesAgree.{TablesAgree}
 use Rattle.log_model.specs.Area.{LogIs, start_of}
 use Rattle.manifest.specs.Manifest.{Manifest, StandsInSlot, install_of, other_place, place_of, raised}
 use Rattle.manifest_model.specs.Installs.{IsInstalled, IsOldOrNew}

@@ -25,7 +25,7 @@ use Rattle.filter_model.specs.Leaves.{Leaf}
 use Rattle.image_model.proofs.Frames.{free_apart, ready_kept}
 use Rattle.image_model.specs.Frames.{IsApartFromReady}
 use Rattle.level_merge.specs.FollowLaws.{CompactionMakes}
-use Rattle.level_merge.specs.TablesAgree.{TablesAgree}
+use Rattle.store_search.specs.TablesAgree.{TablesAgree}
 use Rattle.level_merge.specs.Making.{AreTakenBy, GoesOn, HasPlace, IsMakeRefusal, MakesAnyOutputs, OneOutput, OutputsLeft, SliceOf, merge_extents}
 use Rattle.level_merge.specs.JobValue.{JobValue, compaction}
 use Rattle.level_merge.specs.Outputs.{extent_at}

@@ -12,7 +12,7 @@ use Rattle.table_file.specs.Opened.{Opened}
 use Rattle.table_model.specs.Images.{StandsInExtent}
 use Rattle.table_model.specs.Tables.{FilterBytes}
 use Rattle.manifest.specs.Manifest.{Manifest}
-use Rattle.store_core.specs.Caching.{CacheAgrees, Cached}
+use Rattle.store_search.specs.Caching.{CacheAgrees, Cached}
 use Rattle.store_core.specs.StoreValue.{StoreValue}
 use Rattle.store_core.specs.Represents.{Represents, RepresentsOn}
 

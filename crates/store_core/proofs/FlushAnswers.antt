@@ -41,7 +41,7 @@ use Rattle.store_core.specs.Answers.{WroteEntry, refused, stops, turns}
 use Rattle.store_core.specs.Faults.{of_manifest_fault}
 use Rattle.store_core.specs.Flushing.{FlushedTo, IsFlushFault, IsPlan, IsPlanRefusal, flushed_at, installed_manifest, need_under, opened_of, state_with}
 use Rattle.level_merge.specs.JobValue.{JobValue}
-use Rattle.store_core.specs.Caching.{CacheAgrees, Cached}
+use Rattle.store_search.specs.Caching.{CacheAgrees, Cached}
 use Rattle.store_core.specs.StoreValue.{IsConsistent, StoreValue}
 use Rattle.store_core.specs.Running.{extents_with, outputs_in}
 use Rattle.store_core.specs.Represents.{Represents, RepresentsOn}
@@ -49,7 +49,7 @@ use Rattle.store_core.specs.declared.error.Limit.TheVariants as limit
 use Rattle.store_core.specs.declared.error.StoreError.{StoreError}
 use Rattle.store_core.specs.declared.error.StoreError.TheVariants as error
 use Rattle.store_core.proofs.Agreed.{Agree, tied_agree}
-use Rattle.store_core.proofs.Caches.{true_in_front}
+use Rattle.store_search.proofs.Caches.{true_in_front}
 use Rattle.store_core.proofs.Flushed.{flushed_done, flushed_full, flushed_last, flushed_none, last_is}
 use Rattle.store_core.proofs.Frames.{under_stands}
 use Rattle.store_core.proofs.Overs.{placed_sound}

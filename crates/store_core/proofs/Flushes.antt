@@ -54,7 +54,7 @@ use Rattle.store_core.specs.Answers.{is_write}
 use Rattle.store_core.specs.Flushing.{FlushedTo, IsFlushFault, IsPlan, flushed_at, installed_manifest, next_manifest, opened_of, other_log_page}
 use Rattle.store_core.specs.StoreValue.{IsConsistent, StoreValue}
 use Rattle.level_merge.specs.FollowLaws.{FlushedIsFollowed, OtherImageIsFollowed}
-use Rattle.level_merge.specs.TablesAgree.{TableAgrees, TablesAgree}
+use Rattle.store_search.specs.TablesAgree.{TableAgrees, TablesAgree}
 use Rattle.store_core.specs.Running.{RunsAs, extents_with, outputs_in}
 use Rattle.store_core.specs.Represents.{Represents, RepresentsOn}
 use Rattle.store_core.proofs.Agreed.{Agree, tied_agree}

@@ -26,7 +26,7 @@ use Rattle.table_model.specs.Tables.{Table}
 use Rattle.store_core.specs.StoreValue.{rows_of}
 use Rattle.level_merge.specs.FollowLaws.{OtherImageIsFollowed}
 use Rattle.level_merge.specs.JobValue.{JobValue}
-use Rattle.level_merge.specs.TablesAgree.{TableAgrees, TablesAgree}
+use Rattle.store_search.specs.TablesAgree.{TableAgrees, TablesAgree}
 use Rattle.store_core.specs.Running.{RunsAs}
 use Rattle.store_core.specs.Represents.{RepresentsOn}
 use Rattle.store_core.proofs.Runs.{front_of, made_held, rows_apart, runs_as, unnamed_apart}

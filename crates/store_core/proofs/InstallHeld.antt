@@ -5,7 +5,7 @@ use Rattle.std.specs.List.{list_any}
 use Rattle.disk_trait.specs.Image.{Image}
 use Rattle.filter_api.specs.Spellings.{Spelling}
 use Rattle.key_base.specs.ByteOrder.{is_before}
-use Rattle.level_merge.specs.TablesAgree.{TableAgrees, TablesAgree}
+use Rattle.store_search.specs.TablesAgree.{TableAgrees, TablesAgree}
 use Rattle.level_merge.specs.Laws.{StandingAgrees}
 use Rattle.level_merge.specs.Plans.{Agrees}
 use Rattle.map_model.specs.SortedMap.{Bytes}

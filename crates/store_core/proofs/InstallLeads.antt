@@ -13,7 +13,7 @@ use Rattle.image_model.proofs.Placed.{behind_logs}
 use Rattle.image_model.specs.Stands.{IsNamedBy, IsReady, StandsForMap, as_shown}
 use Rattle.image_model.specs.Tables.{AreTablesOf}
 use Rattle.key_base.specs.Limits.{last_epoch}
-use Rattle.level_merge.specs.TablesAgree.{TablesAgree}
+use Rattle.store_search.specs.TablesAgree.{TablesAgree}
 use Rattle.log_model.proofs.Logs.{log_kept}
 use Rattle.log_model.specs.Area.{LogIs}
 use Rattle.manifest.proofs.Steps.{may_install, raised_is}

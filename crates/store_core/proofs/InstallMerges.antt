@@ -44,8 +44,8 @@ use Rattle.store_core.specs.Running.{IsRun, RunsAs}
 use Rattle.store_core.specs.Represents.{Represents, RepresentsOn}
 use Rattle.store_core.specs.declared.error.StoreError.{StoreError}
 use Rattle.store_core.specs.declared.error.StoreError.TheVariants as error
-use Rattle.store_core.specs.Caching.{AreNumbered, renumbered}
-use Rattle.store_core.proofs.Caches.{true_anew}
+use Rattle.store_search.specs.Caching.{AreNumbered, renumbered}
+use Rattle.store_search.proofs.Caches.{true_anew}
 use Rattle.store_core.proofs.Dropped.{tied_dropped, tied_fields}
 use Rattle.store_core.proofs.FlushAnswers.{passed_on}
 use Rattle.store_core.proofs.Frames.{are_slots}

@@ -6,7 +6,7 @@ use Rattle.std.proofs.lemmas.Bool.{ne_eqb}
 use Rattle.disk_trait.specs.Image.{Image}
 use Rattle.extent_model.proofs.Lists.{Pairs}
 use Rattle.filter_api.specs.Spellings.{Spelling}
-use Rattle.level_merge.specs.TablesAgree.{TablesAgree}
+use Rattle.store_search.specs.TablesAgree.{TablesAgree}
 use Rattle.level_merge.specs.Laws.{StandingAgrees}
 use Rattle.level_merge.specs.JobValue.{JobValue}
 use Rattle.merge_rows.specs.Merges.{numbered}

@@ -2,7 +2,6 @@ pub mod Agreed
 pub mod Answering
 pub mod AsBefore
 pub mod Asked
-pub mod Caches
 pub mod Causes
 pub mod CompactAnswers
 pub mod CompactBegins
@@ -19,7 +18,6 @@ pub mod Dropped
 pub mod FlushAnswers
 pub mod Flushed
 pub mod Flushes
-pub mod Founds
 pub mod Framing
 pub mod Frames
 pub mod InstallHeld
@@ -32,11 +30,12 @@ pub mod InstallSteps
 pub mod Limiting
 pub mod LongValues
 pub mod Lookeds
-pub mod Lookings
 pub mod MergedVersions
 pub mod Moved
 pub mod News
+pub mod Needs
 pub mod NextVersions
+pub mod Numberings
 pub mod OpenedStores
 pub mod OpeningOrder
 pub mod OpeningTables
@@ -44,7 +43,6 @@ pub mod Overs
 pub mod PlannedRows
 pub mod Plans
 pub mod PlansMade
-pub mod ReadBounds
 pub mod RecordsLeft
 pub mod Refusals
 pub mod Resets
@@ -54,6 +52,7 @@ pub mod ScanBounds
 pub mod ScanCauses
 pub mod ScanCounts
 pub mod ScanEnds
+pub mod ScanGoes
 pub mod ScanMade
 pub mod ScanPairs
 pub mod ScanReads

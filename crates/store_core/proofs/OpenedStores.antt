@@ -40,11 +40,11 @@ use Rattle.store_core.specs.Faults.{of_log_fault, of_manifest_fault}
 use Rattle.store_core.specs.StoreValue.{StoreValue, rows_of}
 use Rattle.store_core.specs.Answers.{IsFailure}
 use Rattle.store_core.specs.Opening.{AreOpened, IsOpenAnswer, IsOpenRefusal, IsOpenedAs, IsRangesDamage, IsTablesAnswer, IsVersionOpened, opened_range}
-use Rattle.store_core.specs.Represents.{Represents, RepresentsOn}
-use Rattle.store_core.specs.Caching.{CacheAgrees, Cached, none_cached}
+use Rattle.store_core.specs.Represents.{ReadsAs, Represents, RepresentsOn}
+use Rattle.store_search.specs.Caching.{CacheAgrees, Cached, none_cached}
 use Rattle.store_core.specs.declared.error.StoreError.{StoreError}
 use Rattle.store_core.specs.declared.error.StoreError.TheVariants as error
-use Rattle.store_core.proofs.Caches.{none_true}
+use Rattle.store_search.proofs.Caches.{none_true}
 use Rattle.store_core.proofs.Causes.{refusal_behind}
 use Rattle.store_core.proofs.OpeningTables.{all_opened, as_many, held_of, ranges_are}
 use Rattle.store_core.proofs.Runs.{none_run}
@@ -209,6 +209,30 @@ module _ (spelling : Spelling) (filter_bytes : FilterBytes) (one : SpellsOne spe
     memory = opened.memory ∙ ap newest_entries same_log;
     blocks = subst (λ (b : Cached). CacheAgrees b store.tables s.tables) (sym opened.none_kept) (none_true store.tables s.tables);
   }
+
+  pub log_of : store.log.filled ≡ filled s.log
+  log_of = opened.log ∙ ap filled same_log
+
+  -- and the image shows it as that
+  pub read_of : ReadsAs spelling filter_bytes store s image
+  read_of = record {
+    sound = state_sound spelling filter_bytes s image is;
+    under = under;
+    memory = opened.memory ∙ ap newest_entries same_log;
+  }
+
+-- where its log ends, of such an image
+pub opened_log : (spelling : Spelling) (first : Bytes → Fault) (filter_bytes : FilterBytes) (one : SpellsOne spelling) (s : State) (image : Image) (r : Result StoreValue StoreError)
+    → IsStateOf spelling s image → MatchResult r (IsOpenedAs spelling image) (IsOpenAnswer spelling first image) → IfOk r (λ store. store.log.filled ≡ filled s.log)
+opened_log spelling first filter_bytes one s image (Ok store) is opened = log_of spelling filter_bytes one s store image is opened
+opened_log spelling first filter_bytes one s image (Err why) is answer = tt
+
+-- what is read of an image that stands for a state
+pub opened_shows : (spelling : Spelling) (first : Bytes → Fault) (filter_bytes : FilterBytes) (one : SpellsOne spelling) (s : State) (image : Image) (r : Result StoreValue StoreError)
+    → IsStateOf spelling s image → MatchResult r (IsOpenedAs spelling image) (IsOpenAnswer spelling first image)
+    → MatchResult r (λ store. ReadsAs spelling filter_bytes store s image) IsFailure
+opened_shows spelling first filter_bytes one s image (Ok store) is opened = read_of spelling filter_bytes one s store image is opened
+opened_shows spelling first filter_bytes one s image (Err why) is answer = free_of spelling one s image is first why answer
 
 -- an answer of an image that stands for a state
 pub opened_tied : (spelling : Spelling) (first : Bytes → Fault) (filter_bytes : FilterBytes) (one : SpellsOne spelling) (s : State) (image : Image) (n : ℕ) (a b : World) (r : Result StoreValue StoreError)

@@ -30,7 +30,7 @@ use Rattle.manifest_model.specs.Tables.{KeyRange}
 use Rattle.store_core.specs.Faults.{of_table_fault}
 use Rattle.store_core.specs.StoreValue.{rows_of}
 use Rattle.store_core.specs.Opening.{AreOpened, IsTableAnswer, IsTablesAnswer, opened_range}
-use Rattle.level_merge.specs.TablesAgree.{TablesAgree}
+use Rattle.store_search.specs.TablesAgree.{TablesAgree}
 use Rattle.store_core.specs.declared.error.StoreError.{StoreError}
 use Rattle.store_core.specs.declared.error.StoreError.TheVariants as error
 

@@ -18,7 +18,7 @@ use Rattle.image_model.specs.Installs.{with_numbers}
 use Rattle.image_model.specs.Stands.{IsNamedBy, IsReady, StandsFor, as_shown}
 use Rattle.key_base.specs.Limits.{last_epoch, max_device_pages, max_ratio}
 use Rattle.level_merge.specs.JobValue.{JobValue}
-use Rattle.level_merge.specs.TablesAgree.{TablesAgree}
+use Rattle.store_search.specs.TablesAgree.{TablesAgree}
 use Rattle.line_model.specs.Replies.{LastEpoch, Reply}
 use Rattle.manifest.proofs.Steps.{may_install, raised_is}
 use Rattle.manifest.specs.Causes.{HasInstallCause}

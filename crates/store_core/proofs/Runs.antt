@@ -9,7 +9,7 @@ use Rattle.image_model.specs.Frames.{IsApartFromExtent}
 use Rattle.image_model.specs.Stands.{unnamed}
 use Rattle.level_merge.specs.FollowLaws.{FlushedIsFollowed}
 use Rattle.level_merge.specs.Follows.{Follows}
-use Rattle.level_merge.specs.TablesAgree.{TablesAgree}
+use Rattle.store_search.specs.TablesAgree.{TablesAgree}
 use Rattle.level_merge.specs.Making.{OutputsLeft}
 use Rattle.level_merge.specs.JobValue.{JobValue}
 use Rattle.level_merge.specs.Plans.{numbered}

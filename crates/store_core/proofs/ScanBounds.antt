@@ -16,11 +16,11 @@ use Rattle.merge_rows.specs.Rows.{KeyFloor}
 use Rattle.state_model.specs.Bounds.{admits_range, is_passed, seek_bound, stepped}
 use Rattle.state_model.specs.State.{State}
 use Rattle.state_model.specs.View.{state_map}
-use Rattle.store_core.proofs.Founds.{held_entries}
+use Rattle.store_search.proofs.Founds.{held_entries}
 use Rattle.store_core.proofs.ScanStates.{numbered_at}
 use Rattle.store_core.proofs.Tellings.{as_many, ranges_same}
 use Rattle.store_core.specs.Scans.{MayRead, admits_keys, numbers_admitting, owed}
-use Rattle.level_merge.specs.TablesAgree.{TableAgrees, TablesAgree}
+use Rattle.store_search.specs.TablesAgree.{TableAgrees, TablesAgree}
 use Rattle.table_file.specs.Laws.{StandingBlocks, StandingWalks}
 use Rattle.table_file.specs.Opened.{Opened}
 use Rattle.table_file.specs.Walks.{to_come, walk_from}

@@ -15,9 +15,10 @@ use Rattle.entry_model.specs.Entries.{Entry}
 use Rattle.filter_api.specs.Spellings.{Spelling}
 use Rattle.map_model.specs.SortedMap.{Bytes, Map}
 use Rattle.store_core.specs.Faults.{of_table_fault}
-use Rattle.store_core.specs.Getting.{IsLookFault, IsUndamaged}
+use Rattle.store_core.specs.Getting.{IsUndamaged}
+use Rattle.store_search.specs.Searching.{IsLookFault}
 use Rattle.store_core.specs.Scans.{IsScanShown, IsStepFault, IsWalkShown, ScanWalk, StillComes, is_ended, pair_at, pair_in, pair_of}
-use Rattle.level_merge.specs.TablesAgree.{TablesAgree}
+use Rattle.store_search.specs.TablesAgree.{TablesAgree}
 use Rattle.store_core.specs.declared.error.StoreError.{StoreError}
 use Rattle.std.specs.Result.{IsErrAnd}
 use Rattle.table_file.specs.Faults.{HasReadCause, IsNoDamage, IsNoWant}

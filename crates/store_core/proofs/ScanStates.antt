@@ -25,12 +25,12 @@ use Rattle.state_model.proofs.Views.{tables_rise, view_says}
 use Rattle.state_model.specs.Sound.{IsSound, IsSoundTable}
 use Rattle.state_model.specs.State.{State}
 use Rattle.state_model.specs.View.{entries_of, first_found, memory, state_map}
-use Rattle.store_core.proofs.Founds.{held_entries}
+use Rattle.store_search.proofs.Founds.{held_entries}
 use Rattle.store_core.proofs.ScanPairs.{from_then_after, pairs_between}
 use Rattle.store_core.proofs.Tellings.{ranges_same}
 use Rattle.store_core.specs.Scans.{admits_keys, numbers_admitting, pairs_up_to}
 use Rattle.store_core.specs.Telling.{IsHighOfBytes}
-use Rattle.level_merge.specs.TablesAgree.{TableAgrees, TablesAgree}
+use Rattle.store_search.specs.TablesAgree.{TableAgrees, TablesAgree}
 use Rattle.table_file.specs.Opened.{Opened}
 use Rattle.table_model.specs.Tables.{FilterBytes, Table}
 

@@ -15,9 +15,9 @@ use Rattle.state_model.specs.State.{State}
 use Rattle.state_model.specs.View.{memory}
 use Rattle.store_core.specs.StoreValue.{StoreValue}
 use Rattle.store_core.specs.Telling.{is_admitting, is_read_for, tally_of}
-use Rattle.level_merge.specs.TablesAgree.{TableAgrees, TablesAgree}
+use Rattle.store_search.specs.TablesAgree.{TableAgrees, TablesAgree}
 use Rattle.store_core.specs.Represents.{ReadsAs, Represents}
-use Rattle.store_core.proofs.ReadBounds.{read_where_searched}
+use Rattle.store_search.proofs.ReadBounds.{read_where_searched}
 use Rattle.table_file.specs.Laws.{StandingKeys}
 use Rattle.table_file.specs.Opened.{Opened}
 use Rattle.table_model.specs.Tables.{FilterBytes, Table}

@@ -12,7 +12,7 @@ use Rattle.filter_api.specs.declared.settings.Settings.{Settings}
 use Rattle.image_model.specs.Stands.{IsReady, settings_of}
 use Rattle.level_merge.specs.FollowLaws.{BegunFollows}
 use Rattle.level_merge.specs.Follows.{Follows}
-use Rattle.level_merge.specs.TablesAgree.{TablesAgree}
+use Rattle.store_search.specs.TablesAgree.{TablesAgree}
 use Rattle.level_merge.specs.Laws.{StandingAgrees}
 use Rattle.level_merge.specs.JobValue.{JobValue, begun}
 use Rattle.level_merge.specs.Plans.{Agree, Agrees, IsPlanOf, MayStart, PlanByNumbers, numbered}

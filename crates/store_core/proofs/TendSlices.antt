@@ -19,7 +19,7 @@ use Rattle.image_model.proofs.Frames.{free_apart}
 use Rattle.image_model.specs.Stands.{StandsForMap}
 use Rattle.level_merge.specs.FollowLaws.{OtherImageIsFollowed}
 use Rattle.level_merge.specs.Follows.{AreTaken, Follows, FollowsAnyJob, IsJobRefusal, JobProgress, ProgressOrRefusal}
-use Rattle.level_merge.specs.TablesAgree.{TablesAgree}
+use Rattle.store_search.specs.TablesAgree.{TablesAgree}
 use Rattle.level_merge.specs.JobValue.{JobValue}
 use Rattle.level_merge.specs.Outputs.{extent_at}
 use Rattle.level_merge.specs.SliceSteps.{AddsOutput, SliceMoves}

@@ -27,7 +27,7 @@ use Rattle.state_model.specs.View.{state_map}
 use Rattle.table_file.specs.Opened.{Opened}
 use Rattle.table_model.specs.Tables.{FilterBytes}
 use Rattle.store_core.specs.Answers.{MovesTo}
-use Rattle.store_core.specs.Caching.{CacheAgrees, Cached}
+use Rattle.store_search.specs.Caching.{CacheAgrees, Cached}
 use Rattle.store_core.specs.StoreValue.{IsConsistent, StoreValue}
 use Rattle.store_core.specs.Represents.{Represents, RepresentsOn}
 use Rattle.store_core.specs.declared.error.StoreError.TheVariants as error

@@ -20,11 +20,11 @@ use Rattle.manifest_model.specs.Version.{Version, log_page_of}
 use Rattle.merge_rows.proofs.Begins.{walks_then}
 use Rattle.state_model.proofs.SoundLogs.{memory_is_table, newest_none}
 use Rattle.table_file.specs.Opened.{Opened}
-use Rattle.store_core.specs.Caching.{AreNumbered, Cached}
+use Rattle.store_search.specs.Caching.{AreNumbered, Cached}
 use Rattle.store_core.specs.Flushing.{installed_manifest, next_manifest}
 use Rattle.store_core.specs.StoreValue.{IsConsistent, IsOfEntries, StoreValue, rows_of}
 use Rattle.store_core.specs.Running.{MayRunIn, extents_with, outputs_in}
-use Rattle.store_core.proofs.Caches.{numbered_more}
+use Rattle.store_search.proofs.Caches.{numbered_more}
 
 -- a log with no record, and no entry
 none_of : (store : StoreValue) → store.log.filled ≡ 0 → store.memory.entries ≡ [] → IsOfEntries store.log store.memory.entries

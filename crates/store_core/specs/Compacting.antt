@@ -9,7 +9,7 @@ use Rattle.entry_model.specs.Entries.{Entry}
 use Rattle.extent_model.specs.Extents.{AreLaid}
 use Rattle.filter_api.specs.Spellings.{Spelling}
 use Rattle.key_base.specs.Limits.{last_epoch, max_level, max_tables}
-use Rattle.level_merge.specs.TablesAgree.{TablesAgree}
+use Rattle.store_search.specs.TablesAgree.{TablesAgree}
 use Rattle.level_merge.specs.declared.fault.JobFault.{JobFault}
 use Rattle.level_merge.specs.declared.fault.JobFault.TheVariants as job
 use Rattle.line_model.specs.Replies.{LastEpoch}
@@ -26,7 +26,7 @@ use Rattle.state_model.specs.Taken.{taken}
 use Rattle.state_model.specs.View.{memory}
 use Rattle.store_core.specs.Answers.{is_write, stops, told_limit}
 use Rattle.store_core.specs.Flushing.{other_log_page}
-use Rattle.store_core.specs.Getting.{ReadRose}
+use Rattle.store_search.specs.Searching.{ReadRose}
 use Rattle.store_core.specs.StoreValue.{rows_of}
 use Rattle.store_core.specs.Opening.{FaultRose}
 use Rattle.store_core.specs.Represents.{RepresentsOn}

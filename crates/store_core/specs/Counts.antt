@@ -3,7 +3,7 @@ use Rattle.std.specs.Prelude.{◌≡◌, Bool, true, false, Option, Some}
 use Rattle.disk_trait.specs.World.{World}
 use Rattle.line_model.specs.Replies.{Reply}
 use Rattle.store_core.specs.Answers.{IsTried, told_limit}
-use Rattle.store_core.specs.Getting.{ReadRose}
+use Rattle.store_search.specs.Searching.{ReadRose}
 use Rattle.store_core.specs.declared.error.StoreError.{StoreError}
 use Rattle.store_core.specs.declared.error.StoreError.TheVariants as error
 use Rattle.table_file.specs.Faults.{IsBlockDamage}

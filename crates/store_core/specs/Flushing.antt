@@ -102,6 +102,23 @@ IsNoPlace need largest error.NotAStore = ⊥
 IsNoPlace need largest error.AlreadyAStore = ⊥
 IsNoPlace need largest (error.BadSettings field) = ⊥
 
+-- the same where the pages are known; where they are not there is no refusal
+abbrev pub IsNoRoomFor : Option ℕ → ℕ → StoreError → Type 0
+IsNoRoomFor None largest why = ⊥
+IsNoRoomFor (Some need) largest why = IsNoPlace need largest why
+
+-- where it tells of want of room, it names so many pages
+abbrev pub IsFullFor : ℕ → StoreError → Type 0
+IsFullFor need error.Memory = Unit {0}
+IsFullFor need (error.Device cause) = Unit {0}
+IsFullFor need error.Stopped = Unit {0}
+IsFullFor need (error.Limit limit) = Unit {0}
+IsFullFor need (error.Full wanted gap) = wanted ≡ need
+IsFullFor need (error.Damaged damage) = Unit {0}
+IsFullFor need error.NotAStore = Unit {0}
+IsFullFor need error.AlreadyAStore = Unit {0}
+IsFullFor need (error.BadSettings field) = Unit {0}
+
 -- by a limit: first the tables, and behind the room beside the outputs the epoch
 abbrev pub IsPlanLimit : FilterBytes → Version → List Row → List Entry → Limit → Type 0
 IsPlanLimit filter_bytes v outputs entries (limit.Key size) = ⊥

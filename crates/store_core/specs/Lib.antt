@@ -5,7 +5,7 @@ pub use Rattle.entry_model.specs.Entries
 pub use Rattle.image_model.specs.Stands
 pub use Rattle.key_base.specs.Limits
 pub use Rattle.level_merge.specs.Follows
-pub use Rattle.level_merge.specs.TablesAgree
+pub use Rattle.store_search.specs.TablesAgree
 pub use Rattle.level_merge.specs.JobValue
 pub use Rattle.line_model.specs.Limits as LineLimits
 pub use Rattle.line_model.specs.Requests
@@ -28,7 +28,6 @@ pub mod StoreValue
 pub mod Represents
 pub mod Answers
 pub mod Staying
-pub mod Caching
 pub mod Getting
 pub mod Lends
 pub mod Looking
@@ -46,3 +45,4 @@ pub mod Counts
 pub mod Replacing
 pub mod Compacting
 pub mod Resetting
+pub mod Numbering

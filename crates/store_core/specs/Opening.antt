@@ -19,8 +19,8 @@ use Rattle.manifest_model.specs.Tables.{KeyRange, ranges_fault}
 use Rattle.manifest_model.specs.Version.{body_place}
 use Rattle.map_model.specs.SortedMap.{Bytes}
 use Rattle.store_core.specs.Answers.{is_write}
-use Rattle.store_core.specs.Caching.{none_cached}
-use Rattle.store_core.specs.Getting.{ReadRose}
+use Rattle.store_search.specs.Caching.{none_cached}
+use Rattle.store_search.specs.Searching.{ReadRose}
 use Rattle.store_core.specs.StoreValue.{StoreValue, rows_of}
 use Rattle.store_core.specs.declared.error.StoreError.{StoreError}
 use Rattle.store_core.specs.declared.error.StoreError.TheVariants as error

@@ -5,13 +5,13 @@ use Rattle.disk_trait.specs.World.{Now, World}
 use Rattle.entry_model.specs.Entries.{filled}
 use Rattle.filter_api.specs.Spellings.{Spelling}
 use Rattle.image_model.specs.Stands.{IsReady}
-use Rattle.level_merge.specs.TablesAgree.{TablesAgree}
+use Rattle.store_search.specs.TablesAgree.{TablesAgree}
 use Rattle.level_merge.specs.JobValue.{JobValue}
 use Rattle.manifest.specs.Manifest.{Manifest, other_place, place_of}
 use Rattle.state_model.specs.Sound.{IsSound}
 use Rattle.state_model.specs.State.{State}
 use Rattle.state_model.specs.View.{memory}
-use Rattle.store_core.specs.Caching.{CacheAgrees}
+use Rattle.store_search.specs.Caching.{CacheAgrees}
 use Rattle.store_core.specs.StoreValue.{StoreValue}
 use Rattle.store_core.specs.Running.{RunsAs}
 use Rattle.table_file.specs.Opened.{Opened}

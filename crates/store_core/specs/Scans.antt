@@ -1,5 +1,5 @@
 -- What a scan of a store is, and the pairs that it gives.
-use Rattle.std.specs.Prelude.{◌≡◌, ◌≢◌, ◌<◌, ◌+◌, ◌-◌, ℕ, zero, suc, Bool, true, false, not, ◌&&◌, ◌==◌, if◌then◌else◌, List, [], ◌∷◌, length, take, count_by, sum_by, Contains, Option, Some, None, IfSome}
+use Rattle.std.specs.Prelude.{◌≡◌, ◌≢◌, ◌<◌, ◌+◌, ◌-◌, ℕ, zero, suc, Bool, true, false, not, ◌&&◌, ◌==◌, if◌then◌else◌, List, [], ◌∷◌, length, map, take, count_by, sum_by, Contains, Option, Some, None, IfSome}
 use Rattle.std.specs.List.{AllByRecursion}
 use Rattle.std.specs.Option.{option_map}
 use Rattle.disk_trait.specs.Image.{Image}
@@ -10,15 +10,15 @@ use Rattle.filter_model.specs.Answers.{ranged}
 use Rattle.line_model.specs.Replies.{Reply}
 use Rattle.map_model.specs.Slices.{first_pair, is_before, is_up_to}
 use Rattle.map_model.specs.SortedMap.{Bytes, Map}
-use Rattle.merge_rows.specs.Merges.{Merge, TableWalk, merge_from, rows_left, walk_left}
+use Rattle.merge_rows.specs.Merges.{Merge, TableWalk, left_above, merge_from, rows_left, walk_left}
 use Rattle.merge_rows.specs.Reads.{HasReadAll, PassSound, SomeBlock, blocks_left, ones, wants}
 use Rattle.merge_rows.specs.Rows.{KeyFloor, clears}
-use Rattle.merge_rows.specs.Steps.{IsSoundMerge}
+use Rattle.merge_rows.specs.Steps.{AreHeadsClear, FloorRises, IsSoundMerge}
 use Rattle.state_model.specs.Bounds.{is_passed, seek_bound}
 use Rattle.state_model.specs.State.{State}
 use Rattle.store_core.specs.Answers.{IsTried, told_limit}
-use Rattle.store_core.specs.Getting.{ReadRose}
-use Rattle.level_merge.specs.TablesAgree.{TablesAgree}
+use Rattle.store_search.specs.Searching.{ReadRose}
+use Rattle.store_search.specs.TablesAgree.{TablesAgree}
 use Rattle.store_core.specs.declared.error.StoreError.{StoreError}
 use Rattle.store_core.specs.declared.error.StoreError.TheVariants as error
 use Rattle.table_file.specs.Faults.{IsBlockDamage}
@@ -155,6 +155,26 @@ AreDoneUpTo high tables walks = AllByRecursion (IsDoneUpTo high tables) walks
 abbrev pub IsScanDone : ScanWalk → Type 0
 IsScanDone scan = AreDoneUpTo scan.high scan.tables scan.merge.walks
 
+-- A merge went on: above a floor, to which its rows had come, the same is left of each walk.
+pub record GoesOn (tables : List Opened) (image : Image) (old new : Merge) : Type 0 where
+  pub floor : KeyFloor
+  pub rises : FloorRises old.floor floor
+  pub onward : FloorRises floor new.floor
+  pub same : map (left_above floor tables image) new.walks ≡ map (left_above floor tables image) old.walks
+
+-- so by a step: after it each entry at hand is above that floor
+pub record StepsOn (tables : List Opened) (image : Image) (old new : Merge) : Type 0 where
+  pub on : GoesOn tables image old new
+  pub clear : AreHeadsClear on.floor new.walks
+
+-- A scan has given all its pairs, from some walks on: each entry at hand is above the upper bound, and it is one of those that were
+-- left of its walk at first.
+pub record HasGivenAll (begun : List TableWalk) (image : Image) (scan : ScanWalk) : Type 0 where
+  pub done : IsScanDone scan
+  pub floor : KeyFloor
+  pub same : map (left_above floor scan.tables image) scan.merge.walks ≡ map (left_above floor scan.tables image) begun
+  pub clear : AreHeadsClear floor scan.merge.walks
+
 -- each block of these tables is sound
 abbrev pub AreAllSound : List Opened → Image → Type 0
 AreAllSound tables image = AllByRecursion (λ (t : Opened). (n : ℕ) → n < length t.index.rows → IsSoundBlock t n image) tables
@@ -170,7 +190,7 @@ pub record CountsSound (tables : List Opened) (low high : Bytes) (image : Image)
   pub tables_are : walked.tables ≡ tables
   pub high_is : walked.high ≡ Some high
   pub passes : PassSound tables image (walks_between low (Some high) tables) walked.merge.walks
-  pub done : count < 18446744073709551615 → IsScanDone walked
+  pub done : count < 18446744073709551615 → HasGivenAll (walks_between low (Some high) tables) image walked
 
 -- ---- how many pairs more
 

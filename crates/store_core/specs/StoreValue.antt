@@ -12,7 +12,7 @@ use Rattle.manifest_model.specs.Laws.{IsVersion}
 use Rattle.manifest_model.specs.Version.{log_page_of}
 use Rattle.map_model.specs.SortedMap.{Bytes}
 use Rattle.mem_table.specs.Table.{MemoryTable}
-use Rattle.store_core.specs.Caching.{AreNumbered, Cached}
+use Rattle.store_search.specs.Caching.{AreNumbered, Cached}
 use Rattle.table_file.specs.Opened.{Opened}
 use Rattle.store_core.specs.Running.{MayRunIn}
 

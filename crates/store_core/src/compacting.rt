@@ -273,6 +273,7 @@ impl<F: RangeFilter> Store<F> {
                 self.tables = tables;
                 self.log = log;
                 self.memory.clear();
+                self.need = None;
                 Ok(())
             }
             Err(why) => {

@@ -21,7 +21,7 @@ ghost use Rattle.state_model.specs.Changes.{flushed};
 ghost use Rattle.state_model.specs.State.{State};
 ghost use Rattle.state_model.specs.View.{memory};
 ghost use Rattle.store_core.specs.Answers.{AnswersRequest, IsTried, IsWriteRefusal, WroteEntry, stopped_by, told_change};
-ghost use Rattle.store_core.specs.Flushing.{DiffersInLog, FlushedTo, IsFlushFault, IsNoPlace, IsPlan, IsPlanRefusal, entries_with, next_manifest, other_log_page, over_of, state_with};
+ghost use Rattle.store_core.specs.Flushing.{DiffersInLog, FlushedTo, IsFlushFault, IsFullFor, IsNoPlace, IsNoRoomFor, IsPlan, IsPlanRefusal, entries_with, need_under, next_manifest, other_log_page, over_of, state_with};
 ghost use Rattle.store_core.specs.Framing.{IsInUse, LeavesPlaces};
 ghost use Rattle.store_core.specs.Refusing.{IsFlushAllowed, IsFlushDue, MayBeFlushed};
 ghost use Rattle.store_core.specs.StoreValue.{IsConsistent, StoreValue};
@@ -175,21 +175,40 @@ fn next_version(alloc: Global, version: &Version, row: Row) -> Result<Version, A
     })
 }
 
+// Whether there is room for a table that needs so many pages, where that is known before it is built.
+fn check_room(
+    alloc: Global,
+    version: &Version,
+    outputs: &[Row],
+    need: Option<u64>,
+) -> Result<(), StoreError>
+    requires sound { IsVersion version.now.version }
+    requires laid { AreLaid version.now.version.pages (extents_with version.now.version outputs.now) }
+    ensures refused { IfErr result (IsNoRoomFor need (largest_gap version.now.version.pages (extents_with version.now.version outputs.now))) }
+{
+    if let Some(pages) = need {
+        place_for(alloc, version, outputs, pages)?;
+    }
+    Ok(())
+}
+
 // What is written and installed for the entries of the memory, with an entry over them where there is one. Nothing is written
 // here, and all that is refused is refused here, but for memory for the manifest's body. The outputs are those of the merge that
-// runs.
+// runs. Where the pages are known that the table needs, none is built for which there is no room.
 fn plan_flush<F: RangeFilter>(
     alloc: Global,
     version: &Version,
     outputs: &[Row],
     memory: &MemTable,
     over: Option<(&[u8], &[u8])>,
+    need: Option<u64>,
 ) -> Result<Plan<F>, StoreError>
     requires sound { IsVersion version.now.version }
     requires laid { AreLaid version.now.version.pages (extents_with version.now.version outputs.now) }
     requires rises { KeysRise memory.now.entries }
     requires each { AllByRecursion IsEntry memory.now.entries }
     requires table { IsTable (entries_with memory.now.entries (over_of over)) }
+    requires need { IfSome need (λ pages. pages ≡ need_under (filter_bytes_of F.spelling F.built_cutoff) version.now.version (entries_with memory.now.entries (over_of over))) }
     ensures plan { IfOk result (λ p. IsPlan F.spelling F.built_cutoff version.now outputs.now (entries_with memory.now.entries (over_of over.entry)) p.parts p.row p.next) }
     ensures fits { IfOk result (λ p. p.row.first_page + table_pages (filter_bytes_of F.spelling F.built_cutoff) p.parts.settings p.parts.entries ≤ p.next.version.pages) }
     ensures next { IfOk result (λ p. IsVersion p.next.version) }
@@ -198,6 +217,7 @@ fn plan_flush<F: RangeFilter>(
     if version.rows.len() >= MAX_TABLES {
         return Err(StoreError::Limit(Limit::Tables));
     }
+    check_room(alloc, version, outputs, need)?;
     let parts: Parts<F> = build_flushed(alloc, version.settings, memory, over)?;
     let page = place_for(alloc, version, outputs, pages_of(&parts))?;
     if version.epoch == LAST_EPOCH {
@@ -209,7 +229,7 @@ fn plan_flush<F: RangeFilter>(
 }
 
 // The rows of the outputs of a merge, if one runs.
-fn outputs_of<'a, F: RangeFilter>(job: &'a Option<Job<'static, F>>) -> &'a [Row]
+pub(crate) fn outputs_of<'a, F: RangeFilter>(job: &'a Option<Job<'static, F>>) -> &'a [Row]
     ensures { result.now ≡ outputs_in job.now }
 {
     match job {
@@ -294,19 +314,24 @@ impl<F: RangeFilter> Store<F> {
         if self.memory.is_empty() {
             return Ok(());
         }
-        self.flush_with(disk, None)
+        let need = self.need;
+        let flushed = self.flush_with(disk, None, need);
+        self.keep_need(&flushed);
+        flushed
     }
 
     // The flush of one that is not stopped, with an entry over those in memory where there is one. The memory and the log stay as
-    // they were where it is refused: the entry goes into neither.
+    // they were where it is refused: the entry goes into neither. The pages that the table needs are given where they are known.
     pub(crate) fn flush_with<D: Disk>(
         &mut self,
         disk: &mut D,
         over: Option<(&[u8], &[u8])>,
+        need: Option<u64>,
     ) -> Result<(), StoreError>
         requires running { self.old.stopped ≡ false }
         requires sound { IfSome over (λ pair. IsEntry (put_entry pair.0.now pair.1.now)) }
         requires some { entries_with self.old.memory.entries (over_of over) ≢ [] }
+        requires need { IfSome need (λ pages. pages ≡ need_under (filter_bytes_of F.spelling F.built_cutoff) self.old.manifest.version (entries_with self.old.memory.entries (over_of over))) }
         ensures wrote { (s : State) → IsTrue D.tells → Represents F.spelling (filter_bytes_of F.spelling F.built_cutoff) self.old s (D.world disk.old)
             → WroteEntry F.spelling (filter_bytes_of F.spelling F.built_cutoff) s (flushed (filter_bytes_of F.spelling F.built_cutoff) (state_with s (over_of over.entry))) result self.new (D.world disk.old) (D.world disk.new) }
         ensures refused { IfErr result (IsWriteRefusal false None (D.world disk.old) (D.world disk.new)) }
@@ -324,7 +349,7 @@ impl<F: RangeFilter> Store<F> {
     {
         let alloc = *self.buffer.allocator();
         let outputs = outputs_of(&self.job);
-        let plan: Plan<F> = plan_flush(alloc, &self.version, outputs, &self.memory, over)?;
+        let plan: Plan<F> = plan_flush(alloc, &self.version, outputs, &self.memory, over, need)?;
         self.tables.reserve(1)?;
         match write_plan(alloc, disk, &plan) {
             Ok(log) => {
@@ -333,6 +358,7 @@ impl<F: RangeFilter> Store<F> {
                 self.version = next.installed();
                 self.log = log;
                 self.memory.clear();
+                self.need = None;
                 Ok(())
             }
             Err(fault) => {
@@ -340,6 +366,16 @@ impl<F: RangeFilter> Store<F> {
                 self.stopped = stops_store(&why);
                 Err(why)
             }
+        }
+    }
+
+    // Keeps the pages that the table of the memory needs, where its flush found no room for them. The store is as it was.
+    fn keep_need(&mut self, flushed: &Result<(), StoreError>)
+        requires { IfErr flushed.now (λ why. IsFullFor (need_under (filter_bytes_of F.spelling F.built_cutoff) self.old.manifest.version self.old.memory.entries) why) }
+        ensures { self.new ≡ self.old }
+    {
+        if let Err(StoreError::Full { need, .. }) = flushed {
+            self.need = Some(*need);
         }
     }
 }

@@ -56,6 +56,7 @@ impl<F: RangeFilter> Store<F> {
             Ok(()) => {
                 replace_tables(&mut self.tables, &mut self.blocks, job);
                 self.version = next.installed();
+                self.need = None;
                 Ok(())
             }
             Err(fault) => {

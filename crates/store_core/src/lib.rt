@@ -8,7 +8,8 @@
 //! block of each, and none that it keeps. [`Store::seek`] and [`Store::range`] give the pairs between two bounds, by rising
 //! keys: they open those tables alone whose filter admits the bounds. [`Store::tend`] merges tables, a merge slice at each call;
 //! [`Store::compact`] merges all that the store holds, in one call. [`Store::set_settings`] changes the settings of new tables,
-//! [`Store::grow`] gives the store more pages.
+//! [`Store::grow`] gives the store more pages. [`Store::read_store`] opens one that is only looked at, and [`Store::numbers`]
+//! says what it has.
 //!
 //! `specs/Represents` has what a caller may rest on: a store value, the device under it and a state of `state_model` are one,
 //! where each image that a crash may leave stands for that state, the tables in memory are those of its pages, and the
@@ -26,7 +27,6 @@
 //! ```
 #![tactic(auto)]
 
-mod caching;
 mod compacting;
 mod counting;
 mod error;
@@ -37,6 +37,7 @@ mod getting;
 mod installing;
 mod limits;
 mod long_values;
+mod numbers;
 mod opening;
 mod putting;
 mod replacing;
@@ -47,6 +48,7 @@ mod tending;
 
 pub use error::{Limit, StoreError};
 pub use explaining::Explained;
+pub use numbers::Numbers;
 pub use scanning::Scan;
 pub use store::Store;
 pub use tending::Tended;

@@ -11,14 +11,13 @@ ghost use Rattle.manifest_model.specs.Laws.{IsVersion};
 ghost use Rattle.manifest_model.specs.Tables.{follows, ranges_fault};
 ghost use Rattle.manifest_model.specs.Version.{log_page_of};
 ghost use Rattle.state_model.specs.State.{State};
-ghost use Rattle.store_core.specs.Caching.{none_cached};
+ghost use Rattle.store_search.specs.Caching.{none_cached};
 ghost use Rattle.store_core.specs.StoreValue.{rows_of};
 ghost use Rattle.store_core.specs.Answers.{IsFailure};
 ghost use Rattle.store_core.specs.Opening.{AreOpened, IsOpenFault, IsOpenRefusal, IsOpenAnswer, IsOpenedAs, IsRangesDamage, IsTablesAnswer, IsVersionOpened, opened_range};
-ghost use Rattle.store_core.specs.Represents.{Represents};
+ghost use Rattle.store_core.specs.Represents.{ReadsAs, Represents};
 ghost use Rattle.table_model.specs.Tables.{filter_bytes_of};
 
-use crate::caching::CachedBlocks;
 use crate::error::StoreError;
 use crate::store::Store;
 use byte_fields::{Damage, Part, Row};
@@ -31,6 +30,7 @@ use manifest::{BODY_AT, HEAD_BYTES, ROW_BYTES, Version, load};
 use mem_table::MemTable;
 use std::alloc::Global;
 use std::cmp::Ordering;
+use store_search::CachedBlocks;
 use table_file::{LARGEST_BLOCK_BYTES, Table, Tables, open_table};
 
 // The rule of tables that do not rise.
@@ -123,11 +123,18 @@ impl<F: RangeFilter> Store<F> {
         Store::read_store(alloc, disk)
     }
 
-    // The store that a device reads as.
-    fn read_store<D: Disk>(alloc: Global, disk: &mut D) -> Result<Store<F>, StoreError>
+    /// Opens the store that a device reads as, for one who writes nothing: as [`Store::open_store`] does, without the sync
+    /// before it, so that a device opens too that may only be read. A crash may take back what it finds.
+    ///
+    /// Seven reads at most and two for each table. Nothing is written or synced.
+    pub fn read_store<D: Disk>(alloc: Global, disk: &mut D) -> Result<Store<F>, StoreError>
+        ensures shows { (s : State) → IsTrue D.tells → IsStateOf F.spelling s (D.world disk.old).seen.held
+            → MatchResult result (λ store. ReadsAs F.spelling (filter_bytes_of F.spelling F.built_cutoff) store s (D.world disk.old).seen.held) IsFailure }
         ensures answer { IsTrue D.tells → MatchResult result (IsOpenedAs F.spelling (D.world disk.old).seen.held) (IsOpenAnswer F.spelling F.first_fault (D.world disk.old).seen.held) }
         ensures cause { IfErr result (IsOpenRefusal (D.world disk.old) (D.world disk.new)) }
         ensures running { IfOk result (λ store. store.stopped ≡ false) }
+        ensures idle { IfOk result (λ store. store.job ≡ None) }
+        ensures log { (s : State) → IsTrue D.tells → IsStateOf F.spelling s (D.world disk.old).seen.held → IfOk result (λ store. store.log.filled ≡ filled s.log) }
         ensures reads { (s : State) → IsTrue D.tells → IsStateOf F.spelling s (D.world disk.old).seen.held → (D.world disk.new).seen.reads ≤ (D.world disk.old).seen.reads + 7 + 2 * length s.tables }
         ensures moves { ReadMoves (7 + 2 * max_tables) (D.world disk.old) (D.world disk.new) }
     {
@@ -167,6 +174,7 @@ impl<F: RangeFilter> Store<F> {
             memory,
             buffer,
             blocks,
+            need: None,
         })
     }
 }

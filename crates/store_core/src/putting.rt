@@ -69,7 +69,7 @@ impl<F: RangeFilter> Store<F> {
         check_key(key)?;
         check_value(value)?;
         if value.len() > MAX_LOGGED_VALUE_BYTES {
-            return self.flush_with(disk, Some((key, value)));
+            return self.flush_with(disk, Some((key, value)), None);
         }
         self.write(disk, key, Some(value))
     }
@@ -148,6 +148,7 @@ impl<F: RangeFilter> Store<F> {
         {
             Ok(()) => {
                 self.memory.set(entry);
+                self.need = None;
                 Ok(())
             }
             Err(fault) => {

@@ -5,18 +5,18 @@ ghost use Rattle.key_base.specs.Limits.{max_tables};
 ghost use Rattle.filter_api.specs.Ranges.{IsRowInRange};
 ghost use Rattle.manifest_model.specs.Laws.{RowFits};
 ghost use Rattle.merge_rows.specs.Steps.{numbers};
-ghost use Rattle.store_core.specs.Caching.{renumbered};
+ghost use Rattle.store_search.specs.Caching.{renumbered};
 ghost use Rattle.store_core.specs.Compacting.{HasItsPages};
 ghost use Rattle.store_core.specs.Replacing.{goes_before, merged_manifest, others_in, put_in, tables_behind};
 ghost use Rattle.store_core.specs.StoreValue.{rows_of};
 
-use crate::caching::CachedBlocks;
 use byte_fields::Row;
 use filter_api::RangeFilter;
 use key_base::compare;
 use level_merge::Job;
 use manifest::Version;
 use std::alloc::{AllocError, Global};
+use store_search::CachedBlocks;
 use table_file::{Table, Tables};
 
 // Whether a table goes before another one: it is of a lesser level, or of the same one with lesser keys.

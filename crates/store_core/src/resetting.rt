@@ -133,6 +133,7 @@ impl<F: RangeFilter> Store<F> {
         match install(alloc, disk, &next) {
             Ok(()) => {
                 self.version = next.installed();
+                self.need = None;
                 self.job = None;
                 Ok(())
             }

@@ -16,8 +16,9 @@ ghost use Rattle.state_model.specs.Bounds.{seek_bound};
 ghost use Rattle.state_model.specs.State.{State};
 ghost use Rattle.state_model.specs.View.{state_map};
 ghost use Rattle.store_core.specs.Answers.{IsTried};
-ghost use Rattle.store_core.specs.Getting.{IsLookFault, IsUndamaged};
-ghost use Rattle.store_core.specs.Scans.{AreDoneUpTo, IsScanDone, IsScanRefusal, IsScanShown, IsStepFault, IsWalkShown, MayRead, StillComes, admits_keys, at_most, blocks_admitting, blocks_on_way, blocks_to_come, given, is_ended, left_behind, numbers_admitting, pair_in, pairs_up_to, opened_tables, step_bound, walks_between};
+ghost use Rattle.store_core.specs.Getting.{IsUndamaged};
+ghost use Rattle.store_search.specs.Searching.{IsLookFault};
+ghost use Rattle.store_core.specs.Scans.{AreDoneUpTo, IsScanDone, IsScanRefusal, IsScanShown, IsStepFault, IsWalkShown, MayRead, StepsOn, StillComes, admits_keys, at_most, blocks_admitting, blocks_on_way, blocks_to_come, given, is_ended, left_behind, numbers_admitting, pair_in, pairs_up_to, opened_tables, step_bound, walks_between};
 ghost use Rattle.store_core.specs.Represents.{ReadsAs};
 ghost use Rattle.table_file.specs.Search.{IsGetFault};
 ghost use Rattle.table_model.specs.Tables.{filter_bytes_of};
@@ -154,6 +155,7 @@ fn next_pair<F: RangeFilter, D: Disk>(
         → OnErr result ((D.world disk.new).seen.reads ≤ (D.world disk.old).seen.reads + blocks_left tables.now.tables rows.old.walks) }
     ensures passes { IsTrue D.tells → PassSound tables.now.tables (D.world disk.old).seen.held rows.old.walks rows.new.walks }
     ensures done { IfOk result (λ found. found ≡ false → AreDoneUpTo (option_map (λ v. v.items) high.now) tables.now.tables rows.new.walks) }
+    ensures steps { IsTrue D.tells → OnOk result (StepsOn tables.now.tables (D.world disk.old).seen.held rows.old rows.new) }
     ensures only_if_read { OnErr result (1 ≤ length rows.old.walks) }
     ensures cause { IfErr result (IsLookFault (D.world disk.old) (D.world disk.new)) }
     ensures fault { IsTrue D.tells → IfErr result (λ why. SomeBlock tables.now.tables (numbers rows.old.walks) (λ t n. IsGetFault t n (D.world disk.old).seen.held why)) }
@@ -308,6 +310,7 @@ impl<'s, F: RangeFilter> Scan<'s, F> {
             → OnErr result ((D.world disk.new).seen.reads ≤ (D.world disk.old).seen.reads + blocks_to_come self.old) }
         ensures passes { IsTrue D.tells → PassSound self.old.tables (D.world disk.old).seen.held self.old.merge.walks self.new.merge.walks }
         ensures done { IfOk result (λ some. some ≡ false → self.old.left ≢ Some 0 → IsScanDone self.new) }
+        ensures steps { IsTrue D.tells → OnOk result (self.old.left ≢ Some 0 → StepsOn self.old.tables (D.world disk.old).seen.held self.old.merge self.new.merge) }
         ensures only_if_read { OnErr result ((1 ≤ opened_tables self.old) × (self.old.left ≢ Some 0)) }
         ensures more { IfOk result (λ some. some ≡ true → self.old.left ≢ Some 0) }
         ensures ended { self.old.left ≡ Some 0 → IsOk result × ReadMoves 0 (D.world disk.old) (D.world disk.new) }
@@ -336,7 +339,11 @@ impl<'s, F: RangeFilter> Scan<'s, F> {
         ensures* after { sem 𝓛 (scan_ends F.row F.RangeFilter self.entry (λ scan. ((m : Map) → IsTrue D.tells → StillComes F.spelling self.old m (D.world disk.old).seen.held
             → MatchResult result (λ found. (option_map (λ p. (p.0.now, p.1.now)) found ≡ first_pair m) × StillComes F.spelling scan (drop 1 m) (D.world disk.old).seen.held)
             (λ _. StillComes F.spelling scan m (D.world disk.old).seen.held))
-            × (scan.tables ≡ self.old.tables))) }
+            × (scan.tables ≡ self.old.tables) × (scan.high ≡ self.old.high)
+            × (IsTrue D.tells → PassSound self.old.tables (D.world disk.old).seen.held self.old.merge.walks scan.merge.walks)
+            × IfOk result (λ found. scan.left ≡ left_behind (is_some found) self.old.left) × OnErr result (scan.left ≡ self.old.left)
+            × (IsTrue D.tells → OnOk result (self.old.left ≢ Some 0 → StepsOn self.old.tables (D.world disk.old).seen.held self.old.merge scan.merge))
+            × IfOk result (λ found. is_some found ≡ false → self.old.left ≢ Some 0 → IsScanDone scan))) }
         ensures sound { IfOk result (λ found. IfSome found (λ p. IsEntry (entry_of p.0.now (Some p.1.now)))) }
         ensures undamaged { (m : Map) → IsTrue D.tells → StillComes F.spelling self.old m (D.world disk.old).seen.held → IfErr result IsUndamaged }
         ensures shown { IsTrue D.tells → IfErr result (IsScanShown self.old.tables (D.world disk.old).seen.held) }

@@ -1,7 +1,6 @@
 //! The store in memory.
 ghost use Rattle.std.specs.Prelude.{◌≡◌};
 
-use crate::caching::CachedBlocks;
 use disk_trait::Disk;
 use filter_api::RangeFilter;
 use gate_log::Log;
@@ -9,6 +8,7 @@ use level_merge::Job;
 use manifest::Version;
 use mem_table::MemTable;
 use std::marker::Model;
+use store_search::CachedBlocks;
 use table_file::Tables;
 
 /// A store over a device: its version, its tables, the merge that runs, its log, and the newest entry of each key in the log.
@@ -26,19 +26,24 @@ pub struct Store<F: RangeFilter> {
     pub(crate) buffer: Vec<u8>,
     // those that were read last by gets
     pub(crate) blocks: CachedBlocks,
+    // where a flush of the memory found no room since an entry was set: the pages that its table needs
+    pub(crate) need: Option<u64>,
 }
 
 impl<F: RangeFilter> Model for Store<F> {
-    ghost use Rattle.std.specs.Prelude.{◌≤◌, vec_capacity};
+    ghost use Rattle.std.specs.Prelude.{◌≡◌, ◌≤◌, IfSome, vec_capacity};
+    ghost use Rattle.store_core.specs.Flushing.{need_under};
     ghost use Rattle.store_core.specs.StoreValue.{IsConsistent, StoreValue};
     ghost use Rattle.table_file.specs.Search.{largest_block};
+    ghost use Rattle.table_model.specs.Tables.{filter_bytes_of};
 
     ghost Value = { StoreValue };
 
     ghost view = { λ s. record { stopped = s.stopped; manifest = s.version; tables = s.tables.tables; job = s.job; log = s.log; memory = s.memory; buffer = s.buffer.items; blocks = s.blocks } };
 
     ghost invariant = { λ s. IsConsistent (record { stopped = s.stopped; manifest = s.version; tables = s.tables.tables; job = s.job; log = s.log; memory = s.memory; buffer = s.buffer.items; blocks = s.blocks })
-        × (largest_block ≤ vec_capacity s.buffer) };
+        × (largest_block ≤ vec_capacity s.buffer)
+        × IfSome s.need (λ pages. pages ≡ need_under (filter_bytes_of F.spelling F.built_cutoff) s.version.version s.memory.entries) };
 }
 
 impl<F: RangeFilter> Store<F> {

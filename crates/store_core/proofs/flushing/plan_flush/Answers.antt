@@ -1,11 +1,21 @@
-use Rattle.std.proofs.Common.{◌∙◌, ◌<◌, length, sym, ap, arith}
+use Rattle.std.proofs.Common.{rules, ◌∙◌, ◌<◌, length, sym, ap, arith}
 use Rattle.key_base.specs.Limits.{last_epoch}
 use Rattle.manifest.specs.Manifest.{Manifest}
 use Rattle.store_core.specs.Flushing.{entries_with, over_of}
 use Rattle.store_core.proofs.Flushed.{last_is}
+use Rattle.table_model.specs.Tables.{filter_bytes_of}
+use Rattle.store_core.proofs.Needs.{known_refused}
 use Rattle.store_core.proofs.Plans.{plan_fits, plan_is_version}
 use Rattle.store_core.proofs.PlansMade.{no_epoch, page_fits, parts_of, plan_is}
 use Rattle.store_core.proofs.flushing.plan_flush.Goals as goal
+
+pub returns-in_err-check_room-clause-refused : goal.returns-in_err-check_room-clause-refused
+returns-in_err-check_room-clause-refused g c =
+    let m = c.args.version.now in
+    let few : length m.version.rows < 1024 = omega (arith, ap (λ (x : Manifest). length x.version.rows) c.version.view_is) in
+    let here = known_refused (filter_bytes_of g.F.RangeFilter.spelling g.F.RangeFilter.built_cutoff) m.version c.args.outputs.now (entries_with c.args.memory.now.entries (over_of c.args.over)) few c.args.need c.in_err-check_room.field-0.0
+    c.requires.need c.in_err-check_room.ensures.refused in
+    search rules
 
 pub returns-then-version-clause-refused : goal.returns-then-version-clause-refused
 returns-then-version-clause-refused g c =

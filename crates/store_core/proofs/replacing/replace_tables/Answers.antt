@@ -1,6 +1,6 @@
 use Rattle.std.proofs.Common.{◌∙◌, List, fold, length, ap, ap₂, arith}
 use Rattle.table_file.specs.Opened.{Opened}
-use Rattle.store_core.specs.Caching.{renumbered}
+use Rattle.store_search.specs.Caching.{renumbered}
 use Rattle.store_core.specs.Replacing.{put_in}
 use Rattle.store_core.proofs.replacing.replace_tables.Goals as goal
 

@@ -13,6 +13,7 @@ use Rattle.merge_rows.specs.Reads.{SomeBlock}
 use Rattle.merge_rows.specs.Steps.{AreWalksIn, IsSoundMerge, RowPasses, numbers}
 use Rattle.store_core.proofs.ScanCauses.{as_many_walks, block_cause, fault_at, kept_at, none_value, paced_at, reads_on, pair_some, some_mapped, step_at}
 use Rattle.store_core.proofs.ScanEnds.{bound_done, ended_done, passed_on}
+use Rattle.store_core.proofs.ScanGoes.{goes_same, next_steps}
 use Rattle.store_core.proofs.ScanSteps.{all_bounded, all_spent, all_tried, none_below, none_left, one_on, pair_given, set_out, stay_then, still_pairs}
 use Rattle.store_core.specs.Scans.{pair_in}
 use Rattle.table_file.specs.Search.{IsGetFault}
@@ -24,6 +25,7 @@ loop-rows-init g c =
     record {
       way = set_out g.D.Disk.tells before.seen.held c.args.tables.now.tables (option_map (λ v. v.items) c.args.high.now) c.args.rows.now c.requires.keeps before.seen.reads;
       passes = λ so. pass_same c.args.tables.now.tables before.seen.held c.args.rows.now.walks;
+      goes = λ so. goes_same c.args.tables.now.tables before.seen.held c.args.rows.now;
       moves = (0, reads_none 0 before);
     }
 
@@ -247,6 +249,8 @@ loop-rows-preserved g c =
           (none_value (option_map (λ v. v.now) c.in-Some.value) (some_mapped (λ v. v.now) c.in-Some.value ∙ sym c.is_some.ensures ∙ c.if-is_some.false))
           (λ so sound. c.in_ok-advance.ensures.spent so (subst (λ (f : Image). IsSoundMerge c.loop-rows.rows tables f) (sym same) sound));
       passes = λ so. passed_on tables tables (g.D.Disk.world c.loop-rows.disk).seen.held before.seen.held c.args.rows.now.walks c.loop-rows.rows.walks c.advance.new.self.walks refl same (c.loop-rows.invariant.passes so) (c.advance.ensures.read_sound so);
+      goes = λ so. (next_steps tables (g.D.Disk.world c.loop-rows.disk).seen.held before.seen.held c.args.rows.now c.loop-rows.rows c.advance.new.self same (c.loop-rows.invariant.goes so)
+          (c.in_ok-advance.ensures.paced so (c.loop-rows.invariant.way.kept.drops_are ∙ c.requires.keeps)) c.in_ok-advance.ensures.row.passes).on;
       moves = reads_on before (g.D.Disk.world c.loop-rows.disk) (g.D.Disk.world c.advance.new.disk) c.loop-rows.invariant.moves c.advance.ensures.moves;
     }
 
@@ -340,3 +344,25 @@ returns-then-is_some-clause-done g c none = absurd (false≢true (sym none))
 pub returns-clause-done : goal.returns-clause-done
 returns-clause-done g c none =
     ended_done (option_map (λ v. v.items) c.args.high.now) c.args.tables.now.tables c.advance.new.self.walks (c.in_ok-advance.ensures.ended c.if-branch.false)
+
+-- ---- above a floor the same is left
+
+pub returns-in-None-clause-steps : goal.returns-in-None-clause-steps
+returns-in-None-clause-steps g c so =
+    next_steps c.args.tables.now.tables (g.D.Disk.world c.loop-rows.disk).seen.held (g.D.Disk.world c.args.disk.now).seen.held c.args.rows.now c.loop-rows.rows c.advance.new.self
+    c.loop-rows.invariant.moves.1.held (c.loop-rows.invariant.goes so) (c.in_ok-advance.ensures.paced so (c.loop-rows.invariant.way.kept.drops_are ∙ c.requires.keeps)) c.in_ok-advance.ensures.row.passes
+
+pub returns-then-is_above-clause-steps : goal.returns-then-is_above-clause-steps
+returns-then-is_above-clause-steps g c so =
+    next_steps c.args.tables.now.tables (g.D.Disk.world c.loop-rows.disk).seen.held (g.D.Disk.world c.args.disk.now).seen.held c.args.rows.now c.loop-rows.rows c.advance.new.self
+    c.loop-rows.invariant.moves.1.held (c.loop-rows.invariant.goes so) (c.in_ok-advance.ensures.paced so (c.loop-rows.invariant.way.kept.drops_are ∙ c.requires.keeps)) c.in_ok-advance.ensures.row.passes
+
+pub returns-then-is_some-clause-steps : goal.returns-then-is_some-clause-steps
+returns-then-is_some-clause-steps g c so =
+    next_steps c.args.tables.now.tables (g.D.Disk.world c.loop-rows.disk).seen.held (g.D.Disk.world c.args.disk.now).seen.held c.args.rows.now c.loop-rows.rows c.advance.new.self
+    c.loop-rows.invariant.moves.1.held (c.loop-rows.invariant.goes so) (c.in_ok-advance.ensures.paced so (c.loop-rows.invariant.way.kept.drops_are ∙ c.requires.keeps)) c.in_ok-advance.ensures.row.passes
+
+pub returns-clause-steps : goal.returns-clause-steps
+returns-clause-steps g c so =
+    next_steps c.args.tables.now.tables (g.D.Disk.world c.loop-rows.disk).seen.held (g.D.Disk.world c.args.disk.now).seen.held c.args.rows.now c.loop-rows.rows c.advance.new.self
+    c.loop-rows.invariant.moves.1.held (c.loop-rows.invariant.goes so) (c.in_ok-advance.ensures.paced so (c.loop-rows.invariant.way.kept.drops_are ∙ c.requires.keeps)) c.in_ok-advance.ensures.row.passes

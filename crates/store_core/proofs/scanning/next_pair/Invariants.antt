@@ -5,6 +5,7 @@ use Rattle.key_base.specs.Limits.{max_key_bytes}
 use Rattle.merge_rows.proofs.Rank.{height, strings}
 use Rattle.merge_rows.specs.Reads.{OnlyReads, PassSound}
 use Rattle.store_core.proofs.ScanSteps.{IsUnderWay}
+use Rattle.store_core.specs.Scans.{GoesOn}
 use Rattle.store_core.proofs.scanning.next_pair.Given as goal
 
 -- tombstones alone were passed over
@@ -15,6 +16,7 @@ invariant-loop-rows g l =
     record {
       way : IsUnderWay g.D.Disk.tells before.seen.held l.tables.tables (option_map (λ v. v.items) l.high) l.fn.rows l.rows before.seen.reads after.seen.reads;
       passes : IsTrue g.D.Disk.tells → PassSound l.tables.tables before.seen.held l.fn.rows.walks l.rows.walks;
+      goes : IsTrue g.D.Disk.tells → GoesOn l.tables.tables before.seen.held l.fn.rows l.rows;
       moves : OnlyReads before after;
     }
 

@@ -1,7 +1,7 @@
 use Rattle.std.proofs.Common.{◌≡◌, ◌∙◌, ap, subst}
 use Rattle.std.specs.Prelude.{IfErr, OnOk}
 use Rattle.disk_trait.specs.World.{Now}
-use Rattle.level_merge.specs.TablesAgree.{TableAgrees}
+use Rattle.store_search.specs.TablesAgree.{TableAgrees}
 use Rattle.level_merge.specs.JobValue.{JobValue}
 use Rattle.level_merge.specs.Outputs.{IsCloseFault, built_table, last_row}
 use Rattle.level_merge.specs.SliceSteps.{built_of}

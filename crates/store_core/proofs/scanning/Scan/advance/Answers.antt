@@ -7,7 +7,7 @@ use Rattle.store_core.proofs.ScanCauses.{no_damage, not_ended, said_of, told_as,
 use Rattle.store_core.proofs.ScanEnds.{ended_none}
 use Rattle.store_core.proofs.ScanSteps.{shows_bounded, shows_ended, shows_on, shows_still}
 use Rattle.store_core.specs.Faults.{of_table_fault}
-use Rattle.store_core.specs.Scans.{IsScanShown, IsWalkShown, ScanWalk, StillComes, blocks_to_come, left_behind, opened_tables, step_bound}
+use Rattle.store_core.specs.Scans.{IsScanShown, IsWalkShown, ScanWalk, StepsOn, StillComes, blocks_to_come, left_behind, opened_tables, step_bound}
 use Rattle.store_core.proofs.scanning.Scan.advance.Goals as goal
 
 pub returns-then-has_ended-clause-pairs : goal.returns-then-has_ended-clause-pairs
@@ -148,3 +148,13 @@ returns-clause-passes g c so =
 
 pub returns-clause-done : goal.returns-clause-done
 returns-clause-done g c none going = c.in_ok-found.ensures.done none
+
+-- ---- above a floor the same is left
+
+pub returns-then-has_ended-clause-steps : goal.returns-then-has_ended-clause-steps
+returns-then-has_ended-clause-steps g c so going =
+    absurd (going (ap (λ (w : ScanWalk). w.left) (sym c.self.view_is) ∙ ended_none c.self.inside.left (sym c.has_ended.ensures ∙ c.if-has_ended.true)))
+
+pub returns-clause-steps : goal.returns-clause-steps
+returns-clause-steps g c so going =
+    subst (λ (w : ScanWalk). StepsOn w.tables (g.D.Disk.world c.args.disk.now).seen.held w.merge c.next_pair.new.rows) c.self.view_is (c.in_ok-found.ensures.steps so)

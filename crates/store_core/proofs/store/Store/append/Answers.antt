@@ -41,6 +41,7 @@ invariant_of-self g c =
         numbered = whole.numbered;
       },
       c.lengthen_for.ensures.room,
+      tt,
     )
 
 pub returns-in-Ok-clause-turns : goal.returns-in-Ok-clause-turns

@@ -1,12 +1,12 @@
 use Rattle.std.proofs.Common.{◌≢◌, ◌⊎◌, ◌∙◌, [], length, refl, sym, ap, subst}
 use Rattle.state_model.specs.State.{without_job}
 use Rattle.table_model.specs.Tables.{filter_bytes_of}
-use Rattle.store_core.specs.Caching.{AreNumbered, CacheAgrees, Cached, renumbered}
+use Rattle.store_search.specs.Caching.{AreNumbered, CacheAgrees, Cached, renumbered}
 use Rattle.store_core.specs.Compacting.{FailsSo, IsHeldBy}
 use Rattle.store_core.specs.Framing.{IsInUse, LeavesPlaces}
 use Rattle.store_core.specs.Scans.{AreAllSound}
 use Rattle.store_core.specs.StoreValue.{StoreValue}
-use Rattle.store_core.proofs.Caches.{numbered_anew, true_anew}
+use Rattle.store_search.proofs.Caches.{numbered_anew, true_anew}
 use Rattle.store_core.proofs.CompactAnswers.{answered_done, answered_failed, compacted_whole, entries_sound, held_by}
 use Rattle.store_core.proofs.Stays.{stopped_or_stays}
 use Rattle.store_core.proofs.store.Store.compact_all.Goals as goal
@@ -20,6 +20,7 @@ invariant_of-self g c = (
       (subst (λ (b : Cached). AreNumbered b (length c.in-Ok.done.tables.tables)) (sym (c.renumber.ensures ∙ ap (renumbered c.self.inside.blocks) c.len.ensures))
       (numbered_anew c.self.inside.blocks (length c.self.inside.tables.tables) (length c.in-Ok.done.tables.tables) c.self.invariant.0.numbered)),
   c.self.invariant.1,
+  tt,
 )
 
 pub returns-in-Ok-clause-answered : goal.returns-in-Ok-clause-answered

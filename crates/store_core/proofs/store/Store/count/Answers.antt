@@ -15,9 +15,10 @@ use Rattle.state_model.specs.View.{state_map}
 use Rattle.store_core.proofs.ScanCauses.{reads_on}
 use Rattle.store_core.proofs.ScanCounts.{below_most, counted_all, drop_next, met_any, none_behind, none_crossed, none_pair, scan_count, scan_met, scan_shown, scan_undamaged, some_behind, step_count}
 use Rattle.store_core.proofs.ScanEnds.{more_left, passed_on}
+use Rattle.store_core.proofs.ScanGoes.{all_given, goes_same, later_steps}
 use Rattle.store_core.proofs.Tellings.{seen_as}
 use Rattle.store_core.proofs.Ties.{tied_read}
-use Rattle.store_core.specs.Scans.{IsScanShown, StillComes, left_behind, opened_tables}
+use Rattle.store_core.specs.Scans.{IsScanShown, StillComes, left_behind, opened_tables, walks_between}
 use Rattle.table_file.specs.Opened.{Opened}
 use Rattle.table_model.specs.Tables.{filter_bytes_of}
 use Rattle.store_core.proofs.store.Store.count.Goals as goal
@@ -79,6 +80,7 @@ loop-scan-init g c = record {
   tables = refl;
   high = refl;
   passes = λ so. pass_same c.in_ok-scan.scan.tables (g.D.Disk.world c.args.disk.now).seen.held c.in_ok-scan.scan.merge.walks;
+  goes = λ so. goes_same c.in_ok-scan.scan.tables (g.D.Disk.world c.args.disk.now).seen.held c.in_ok-scan.scan.merge;
   sources = refl;
   moves = (0, reads_none 0 (g.D.Disk.world c.args.disk.now));
 }
@@ -182,6 +184,8 @@ loop-scan-preserved g c =
       high = c.advance.ensures.high ∙ c.loop-scan.invariant.high;
       passes = λ so. passed_on c.loop-scan.scan.tables c.in_ok-scan.scan.tables (g.D.Disk.world c.loop-scan.disk).seen.held (g.D.Disk.world c.args.disk.now).seen.held c.in_ok-scan.scan.merge.walks c.loop-scan.scan.merge.walks c.advance.new.self.merge.walks
           c.loop-scan.invariant.tables held (c.loop-scan.invariant.passes so) (c.advance.ensures.passes so);
+      goes = λ so. (later_steps c.loop-scan.scan.tables c.in_ok-scan.scan.tables (g.D.Disk.world c.loop-scan.disk).seen.held (g.D.Disk.world c.args.disk.now).seen.held c.in_ok-scan.scan.merge c.loop-scan.scan.merge c.advance.new.self.merge
+          c.loop-scan.invariant.tables held (c.loop-scan.invariant.goes so) (c.in_ok-advance.ensures.steps so (c.in_ok-advance.ensures.more c.if-branch.true))).on;
       sources = c.advance.ensures.same.1 ∙ c.loop-scan.invariant.sources;
       moves = reads_on (g.D.Disk.world c.args.disk.now) (g.D.Disk.world c.loop-scan.disk) (g.D.Disk.world c.advance.new.disk) c.loop-scan.invariant.moves c.advance.ensures.moves;
     }
@@ -247,5 +251,10 @@ returns-clause-sound g c so straight =
       high_is = c.advance.ensures.high ∙ c.loop-scan.invariant.high ∙ begins.0;
       passes = subst (λ (walks : List TableWalk). PassSound c.args.self.now.tables image walks c.advance.new.self.merge.walks) begins.1
           (subst (λ (ts : List Opened). PassSound ts image first.merge.walks c.advance.new.self.merge.walks) made passes);
-      done = λ few. c.in_ok-advance.ensures.done c.if-branch.false (more_left c.loop-scan.scan.left c.loop-scan.count c.loop-scan.invariant.left few);
+      done = λ few.
+          let going = more_left c.loop-scan.scan.left c.loop-scan.count c.loop-scan.invariant.left few in
+          let steps = later_steps c.loop-scan.scan.tables first.tables (g.D.Disk.world c.loop-scan.disk).seen.held image first.merge c.loop-scan.scan.merge c.advance.new.self.merge
+          c.loop-scan.invariant.tables c.loop-scan.invariant.moves.1.held (c.loop-scan.invariant.goes so) (c.in_ok-advance.ensures.steps so going) in
+          all_given first.merge.walks (walks_between c.args.low.now (Some c.args.high.now) c.args.self.now.tables) first.tables image first.merge c.advance.new.self begins.1 refl
+          (c.advance.ensures.same.0 ∙ c.loop-scan.invariant.tables) (c.in_ok-advance.ensures.done c.if-branch.false going) steps;
     }

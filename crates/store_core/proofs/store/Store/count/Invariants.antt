@@ -2,7 +2,7 @@ use Rattle.std.proofs.Common.{◌≡◌, ◌≤◌, ◌+◌, ◌-◌, length, dr
 use Rattle.std.specs.Prelude.{IsTrue, Some}
 use Rattle.map_model.specs.SortedMap.{Map}
 use Rattle.merge_rows.specs.Reads.{OnlyReads, PassSound}
-use Rattle.store_core.specs.Scans.{StillComes, blocks_to_come, opened_tables}
+use Rattle.store_core.specs.Scans.{GoesOn, StillComes, blocks_to_come, opened_tables}
 use Rattle.store_core.proofs.store.Store.count.Given as goal
 
 -- so many of the pairs were given, and the others are still to come
@@ -19,6 +19,7 @@ invariant-loop-scan g l =
       tables : l.scan.tables ≡ l.initial.scan.tables;
       high : l.scan.high ≡ l.initial.scan.high;
       passes : IsTrue g.D.Disk.tells → PassSound l.initial.scan.tables before.seen.held l.initial.scan.merge.walks l.scan.merge.walks;
+      goes : IsTrue g.D.Disk.tells → GoesOn l.initial.scan.tables before.seen.held l.initial.scan.merge l.scan.merge;
       sources : opened_tables l.scan ≡ opened_tables l.initial.scan;
       moves : OnlyReads before after;
     }

@@ -1,5 +1,5 @@
 use Rattle.std.proofs.Common.{◌≡◌, ◌≢◌, List, [], ◌∷◌, ◌∙◌, refl, sym, ap, subst, arith}
-use Rattle.std.specs.Prelude.{IfErr, Result, Ok, Err}
+use Rattle.std.specs.Prelude.{ℕ, IfErr, IfSome, Result, Ok, Err}
 use Rattle.block_model.specs.Block.{IsTable}
 use Rattle.byte_fields.specs.declared.parts.Row.{Row}
 use Rattle.extent_model.specs.Extents.{AreLaid}
@@ -11,7 +11,7 @@ use Rattle.store_core.specs.Answers.{WroteEntry}
 use Rattle.manifest.specs.Manifest.{Manifest}
 use Rattle.store_core.proofs.Framing.{leaves_none}
 use Rattle.store_core.specs.Framing.{IsInUse}
-use Rattle.store_core.specs.Flushing.{IsPlan, IsPlanRefusal, entries_with, over_of, state_with}
+use Rattle.store_core.specs.Flushing.{IsPlan, IsPlanRefusal, entries_with, need_under, over_of, state_with}
 use Rattle.store_core.specs.StoreValue.{IsConsistent, StoreValue}
 use Rattle.store_core.specs.Refusing.{IsFlushDue}
 use Rattle.store_core.specs.Running.{extents_with, outputs_in}
@@ -36,6 +36,11 @@ pub plan_flush-requires-clause-table : goal.plan_flush-requires-clause-table
 plan_flush-requires-clause-table g c =
     let over = over_of c.args.over in
     flushed_table _ c.self.invariant.0 over (over_is_entry c.args.over c.requires.sound) (subst (λ (k : StoreValue). entries_with k.memory.entries over ≢ []) (sym c.self.view_is) c.requires.some)
+
+pub plan_flush-requires-clause-need : goal.plan_flush-requires-clause-need
+plan_flush-requires-clause-need g c =
+    let bytes = filter_bytes_of g.F.RangeFilter.spelling g.F.RangeFilter.built_cutoff in
+    subst (λ (k : StoreValue). IfSome c.args.need (λ (pages : ℕ). pages ≡ need_under bytes k.manifest.version (entries_with k.memory.entries (over_of c.args.over)))) (sym c.self.view_is) c.requires.need
 
 pub plan_flush-requires-clause-laid : goal.plan_flush-requires-clause-laid
 plan_flush-requires-clause-laid g c =
@@ -77,7 +82,7 @@ into_table-requires-clause-within g c =
     c.in_ok-plan.ensures.fits
 
 pub invariant_of-self-in-Err-1 : goal.invariant_of-self-in-Err-1
-invariant_of-self-in-Err-1 g c = (whole_stopped _ _ _ c.reserve.ensures.tables c.self.invariant.0, c.self.invariant.1)
+invariant_of-self-in-Err-1 g c = (whole_stopped _ _ _ c.reserve.ensures.tables c.self.invariant.0, c.self.invariant.1, c.self.invariant.2)
 
 pub invariant_of-self-in-Ok : goal.invariant_of-self-in-Ok
 invariant_of-self-in-Ok g c =
@@ -93,6 +98,7 @@ invariant_of-self-in-Ok g c =
           (c.insert.ensures.tables ∙ ap (λ (ts : List Opened). c.into_table.result ∷ ts) c.reserve.ensures.tables) (ap (λ (t : Opened). t.row) c.into_table.ensures.table) refl refl free
           c.in-Ok.ensures.log.1 c.in-Ok.ensures.log.0 c.clear.ensures.empty,
       c.self.invariant.1,
+      tt,
     )
 
 pub returns-in-Ok-clause-wrote : goal.returns-in-Ok-clause-wrote

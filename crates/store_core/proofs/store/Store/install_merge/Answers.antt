@@ -17,7 +17,7 @@ use Rattle.merge_rows.proofs.Begins.{numbers_known}
 use Rattle.merge_rows.specs.Steps.{numbers}
 use Rattle.table_file.specs.Opened.{Opened}
 use Rattle.table_model.specs.Tables.{filter_bytes_of}
-use Rattle.store_core.specs.Caching.{AreNumbered, Cached, renumbered}
+use Rattle.store_search.specs.Caching.{AreNumbered, Cached, renumbered}
 use Rattle.store_core.specs.Flushing.{installed_manifest}
 use Rattle.store_core.specs.Framing.{IsInUse}
 use Rattle.store_core.proofs.Framing.{leaves_none, leaves_write, slot_outside}
@@ -25,7 +25,7 @@ use Rattle.store_core.specs.StoreValue.{IsConsistent, StoreValue, rows_of}
 use Rattle.store_core.specs.Replacing.{merged_manifest, tables_behind}
 use Rattle.store_core.specs.Running.{IsRun, MayRunIn}
 use Rattle.store_core.proofs.Agreed.{tied_agree}
-use Rattle.store_core.proofs.Caches.{numbered_anew}
+use Rattle.store_search.proofs.Caches.{numbered_anew}
 use Rattle.store_core.proofs.InstallLists.{others_few}
 use Rattle.store_core.proofs.InstallMerges.{install_done, install_refused, wanted}
 use Rattle.store_core.proofs.InstallRefusals.{below_last, install_is_refused, moves_within, no_fault, one_fault, room_for}
@@ -82,7 +82,7 @@ installed-requires-clause-epoch g c =
     below_last c.in_ok-next.next.version.epoch sound.epoch (λ last. no_fault _ _ (c.in-Ok.ensures.limit.1 last))
 
 pub invariant_of-self-in-Err-1 : goal.invariant_of-self-in-Err-1
-invariant_of-self-in-Err-1 g c = (whole_stopped _ _ _ c.reserve.ensures.tables c.self.invariant.0, c.self.invariant.1)
+invariant_of-self-in-Err-1 g c = (whole_stopped _ _ _ c.reserve.ensures.tables c.self.invariant.0, c.self.invariant.1, c.self.invariant.2)
 
 pub invariant_of-self-in-Ok : goal.invariant_of-self-in-Ok
 invariant_of-self-in-Ok g c =
@@ -106,6 +106,7 @@ invariant_of-self-in-Ok g c =
             (numbered_anew c.self.inside.blocks (length c.self.inside.tables.tables) (length c.replace_tables.new.tables.tables) whole.numbered);
       },
       c.self.invariant.1,
+      tt,
     )
 
 pub returns-in-Ok-clause-installs : goal.returns-in-Ok-clause-installs

@@ -53,6 +53,7 @@ invariant_of-self g c =
         numbered = whole.numbered;
       },
       c.self.invariant.1,
+      tt,
     )
 
 pub returns-in-Ok-clause-resets : goal.returns-in-Ok-clause-resets

@@ -1,6 +1,6 @@
 use Rattle.std.proofs.Common.{rules, List, length, refl, sym, ◌∙◌, ap, subst}
-use Rattle.store_core.specs.Caching.{AreNumbered, CacheAgrees, Cached, LeavesKept}
-use Rattle.store_core.specs.Looking.{AreReadSound, looked_tables}
+use Rattle.store_search.specs.Caching.{AreNumbered, CacheAgrees, Cached, LeavesKept}
+use Rattle.store_search.specs.Looking.{AreReadSound, looked_tables}
 use Rattle.store_core.specs.StoreValue.{StoreValue}
 use Rattle.store_core.specs.Represents.{Represents}
 use Rattle.table_file.specs.Opened.{Opened}
@@ -18,6 +18,7 @@ invariant_of-self g c =
     let before = subst (λ (ts : List Opened). AreNumbered c.self.inside.blocks (length ts)) (sym tables) c.self.invariant.0.numbered in (
       whole_asked _ _ _ (subst (λ (ts : List Opened). AreNumbered c.look_and_keep.new.blocks (length ts)) tables (c.look_and_keep.ensures.numbered before)) c.self.invariant.0,
       search rules,
+      c.self.invariant.2,
     )
 
 pub invariant_of-self-2 : goal.invariant_of-self-2
@@ -26,6 +27,7 @@ invariant_of-self-2 g c =
     let before = subst (λ (ts : List Opened). AreNumbered c.self.inside.blocks (length ts)) (sym tables) c.self.invariant.0.numbered in (
       whole_asked _ _ _ (subst (λ (ts : List Opened). AreNumbered c.look_and_keep.new.blocks (length ts)) tables (c.look_and_keep.ensures.numbered before)) c.self.invariant.0,
       search rules,
+      c.self.invariant.2,
     )
 
 pub returns-then-self-clause-asked : goal.returns-then-self-clause-asked

@@ -1,6 +1,6 @@
 use Rattle.std.proofs.Common.{length, rules, subst, sym}
-use Rattle.store_core.specs.Caching.{AreNumbered, Cached}
-use Rattle.store_core.proofs.Caches.{none_numbered}
+use Rattle.store_search.specs.Caching.{AreNumbered, Cached}
+use Rattle.store_search.proofs.Caches.{none_numbered}
 use Rattle.store_core.proofs.store.Store.of_parts.Goals as goal
 
 pub invariant_of-result : goal.invariant_of-result
@@ -21,4 +21,5 @@ invariant_of-result g c = (
     numbered = subst (λ (b : Cached). AreNumbered b (length c.args.tables.tables)) (sym c.in_ok-blocks.ensures) (none_numbered (length c.args.tables.tables));
   },
   search rules,
+  tt,
 )

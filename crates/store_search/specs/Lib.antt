@@ -1,0 +1,11 @@
+pub use Rattle.block_cache.specs.Kept
+pub use Rattle.block_model.specs.BlockReading
+pub use Rattle.disk_trait.specs.World
+pub use Rattle.entry_model.specs.Newest
+pub use Rattle.state_model.specs.Bounds
+pub use Rattle.table_file.specs.Search
+pub use Rattle.table_model.specs.Tables
+pub mod TablesAgree
+pub mod Caching
+pub mod Searching
+pub mod Looking
