@@ -20,6 +20,9 @@ one_more n a b c one two = (one.0 + n, reads_then one.0 n a b c one.1 two)
 pub then_more : (n : ℕ) (a b c : World) → ReadMoves n a b → OnlyReads b c → OnlyReads a c
 then_more n a b c one two = (n + two.0, reads_then n two.0 a b c one two.1)
 
+pub then_reads : (m n : ℕ) (a b c : World) → ReadMoves m a b → ReadMoves n b c → OnlyReads a c
+then_reads m n a b c one two = (m + n, reads_then m n a b c one two)
+
 pub no_reads : (a : World) → OnlyReads a a
 no_reads a = (0, reads_none 0 a)
 

@@ -13,6 +13,7 @@ use Rattle.disk_trait.specs.Image.{Image}
 use Rattle.filter_api.specs.Spellings.{Spelling}
 use Rattle.manifest.specs.Manifest.{Manifest, place_of}
 use Rattle.manifest_model.specs.Laws.{IsVersion}
+use Rattle.manifest_model.specs.Slots.{IsVersionOf}
 use Rattle.manifest_model.proofs.Rows.{tables_fit}
 use Rattle.map_model.specs.SortedMap.{Bytes}
 use Rattle.block_model.specs.Places.{FitsDevice}
@@ -71,8 +72,9 @@ module _ (spelling : Spelling) (first : Bytes → Fault) (image : Image) (m : Ma
   front_is : take (order.rows + 1) rows ≡ take order.rows rows ++ row ∷ []
   front_is = take_more rows order.rows row lt ∙ ap (λ (r : Row). take order.rows rows ++ r ∷ []) at_row
 
-  row_seen : (after : TableOrder) → after.rows ≡ order.rows + 1 → IsOrderOf image (take order.rows rows ++ row ∷ []) after → IsLookedAt image m after stage.Rows
-  row_seen after more is = record {
+  row_seen : (after : TableOrder) → IsVersionOf m.version image → after.rows ≡ order.rows + 1 → IsOrderOf image (take order.rows rows ++ row ∷ []) after → IsLookedAt image m after stage.Rows
+  row_seen after version more is = record {
+    version_is = version;
     rows_done = omega (arith, lt, more);
     order_is = subst (λ (rs : List Row). IsOrderOf image rs after) (sym (ap (λ (n : ℕ). take n rows) more ∙ front_is)) is;
   }
@@ -89,7 +91,7 @@ module _ (spelling : Spelling) (first : Bytes → Fault) (image : Image) (order 
   pub row_was_seen : (v : Option Manifest) → row_of v order ≡ Some row → IsIndexRead row image index → CheckOfVersion image order stage.Rows v → CheckOfVersion image after stage.Rows v
   row_was_seen None here read is = absurd cc
   row_was_seen (Some m) here read is =
-      row_seen spelling first image m order row here after refl
+      row_seen spelling first image m order row here after is.version_is refl
       (order_more image (take order.rows m.version.rows) order row (option_map range_of_index index) is.order_is (range_read row image index read))
 
 -- over any device

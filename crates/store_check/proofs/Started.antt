@@ -1,5 +1,5 @@
 -- What a check finds in all is what is left of it at the start.
-use Rattle.std.proofs.Common.{◌≡◌, List, [], ◌++◌, sym, ap, ◌∙◌, subst}
+use Rattle.std.proofs.Common.{◌≡◌, List, [], ◌++◌, refl, sym, ap, ◌∙◌, subst, arith}
 use Rattle.std.proofs.lemmas.List.{append-nil}
 use Rattle.std.specs.Prelude.{Option, Some, None}
 use Rattle.byte_fields.specs.Faults.{Fault}
@@ -10,16 +10,26 @@ use Rattle.manifest.specs.Loading.{IsLoaded}
 use Rattle.manifest.specs.Manifest.{Manifest, other_place, place_of}
 use Rattle.manifest.proofs.Steps.{are_slots}
 use Rattle.manifest_model.specs.Slots.{slots_damage}
+use Rattle.manifest_model.proofs.Versions.{in_use}
 use Rattle.map_model.specs.SortedMap.{Bytes}
 use Rattle.table_file.specs.Faults.{filter_fault_of}
 use Rattle.image_model.specs.Findings.{AreFindings, Finding, found_by, of_slots, of_version}
-use Rattle.store_check.specs.Checks.{AreLeft, VersionLeft, waiting}
+use Rattle.store_check.specs.Checks.{AreLeft, CheckOfVersion, IsCheckOf, VersionLeft, waiting}
 use Rattle.store_check.specs.Orders.{no_tables}
 use Rattle.store_check.specs.declared.check.Check.{Check}
 use Rattle.store_check.specs.declared.stage.Stage.TheVariants as stage
 use Rattle.store_check.proofs.Parts.{moved}
 
 module _ (image : Image) (c : Check) where
+  pub fresh_of : (m : Manifest) → c.version ≡ Some m → c.stage ≡ stage.Rows → c.order ≡ no_tables → IsLoaded image m → IsCheckOf image c
+  fresh_of m version at order loaded =
+      moved (λ o s v. CheckOfVersion image o s v) no_tables c.order stage.Rows c.stage (Some m) c.version order at version
+      (record {
+        version_is = in_use (place_of m.slot) (other_place m.slot) m.version image (are_slots m.slot loaded.slot) loaded.stands.current;
+        rows_done = omega arith;
+        order_is = record { rows_are = refl; before_is = refl; broken_is = refl };
+      })
+
   module _ (spelling : Spelling) (first : Bytes → Fault) (findings : List Finding) where
     pub fresh_left : (m : Manifest) → c.version ≡ Some m → c.stage ≡ stage.Rows → c.order ≡ no_tables → waiting c ≡ [] → IsLoaded image m
         → AreLeft spelling first image c findings → AreFindings spelling (filter_fault_of first) image findings

@@ -18,6 +18,11 @@ HasCause old new check.Memory = Unit {0}
 HasCause old new check.NotAStore = Unit {0}
 HasCause old new (check.Device cause) = Rose old.seen.read_faults new.seen.read_faults
 
+abbrev pub HasFaultCause : World → World → TableFault → Type 0
+HasFaultCause old new table.Memory = Unit {0}
+HasFaultCause old new (table.Device cause) = Rose old.seen.read_faults new.seen.read_faults
+HasFaultCause old new (table.Damaged d) = Unit {0}
+
 -- memory or the device
 abbrev pub IsFree : CheckError → Type 0
 IsFree check.Memory = Unit {0}

@@ -6,6 +6,7 @@ use Rattle.byte_fields.specs.declared.parts.Row.{Row}
 use Rattle.disk_trait.specs.Image.{Image}
 use Rattle.filter_api.specs.Spellings.{Spelling}
 use Rattle.manifest.specs.Manifest.{Manifest, place_of}
+use Rattle.manifest_model.specs.Slots.{IsVersionOf}
 use Rattle.map_model.specs.SortedMap.{Bytes}
 use Rattle.table_file.specs.Faults.{filter_fault_of}
 use Rattle.image_model.specs.Findings.{Finding, LogFindings, RowsFindings, neighbours_fault, ranges_findings}
@@ -51,6 +52,7 @@ RowsDone m order stage.Rows = order.rows ≤ length m.version.rows
 RowsDone m order at = order.rows ≡ length m.version.rows
 
 pub record IsLookedAt (image : Image) (m : Manifest) (order : TableOrder) (at : Stage) : Type 0 where
+  pub version_is : IsVersionOf m.version image
   pub rows_done : RowsDone m order at
   pub order_is : IsOrderOf image (take order.rows m.version.rows) order
 

@@ -11,6 +11,13 @@ pub use Rattle.image_model.specs.Findings
 pub use Rattle.table_file.specs.Opened
 pub use Rattle.table_file.specs.Search
 pub use Rattle.manifest_model.specs.Slots
+pub use Rattle.image_model.specs.Stands
+pub use Rattle.image_model.specs.Tables as ImageTables
+pub use Rattle.state_model.specs.State
+pub use Rattle.state_model.specs.View
+pub use Rattle.table_model.specs.Tables as StateTables
+pub use Rattle.merge_rows.specs.Merges
+pub use Rattle.merge_rows.specs.Steps
 pub mod Befores
 pub mod Blocks
 pub mod Causes
@@ -20,4 +27,5 @@ pub mod Lists
 pub mod Orders
 pub mod Places
 pub mod Said
+pub mod Summaries
 pub mod Tables

@@ -5,21 +5,25 @@ ghost use Rattle.block_model.specs.Places.{FitsDevice};
 ghost use Rattle.disk_trait.specs.Image.{Image};
 ghost use Rattle.disk_trait.specs.World.{ReadMoves};
 ghost use Rattle.filter_api.specs.Spellings.{Spelling};
-ghost use Rattle.image_model.specs.Findings.{AreFindings, BrokenRule, Finding as Found, finding, found_by as findings_by};
+ghost use Rattle.image_model.specs.Findings.{AreFindings, Finding as Found, found_by as findings_by};
+ghost use Rattle.image_model.specs.Stands.{IsStateOf};
 ghost use Rattle.manifest_model.specs.Slots.{IsNoStore};
 ghost use Rattle.map_model.specs.SortedMap.{Bytes};
 ghost use Rattle.byte_fields.specs.Faults.{Fault};
 ghost use Rattle.table_file.specs.Faults.{filter_fault_of};
 ghost use Rattle.store_check.specs.Causes.{HasCause, IsFree, OnlyReads};
+ghost use Rattle.state_model.specs.State.{State};
 ghost use Rattle.store_check.specs.Orders.{IsSoundAt, no_tables};
+ghost use Rattle.store_check.specs.Summaries.{HasSummaryCause, IsSummaryOf, IsUndamaged};
 ghost use Rattle.store_check.specs.declared.stage.Stage.TheVariants.{End, Log as Replay, Ranges, Rows};
 
 use crate::error::CheckError;
-use crate::finding::{Finding, What, add, found_by};
+use crate::finding::{Finding, add, broken_log, found_by};
 use crate::order::TableOrder;
 use crate::stage::Stage;
+use crate::summary::{Summary, SummaryError, summarize};
 use crate::table::table_findings;
-use byte_fields::{Damage, Part, Row};
+use byte_fields::{Damage, Row};
 use disk_trait::Disk;
 use filter_api::RangeFilter;
 use gate_log::{Log, LogFault};
@@ -90,7 +94,8 @@ impl Check {
         }
     }
 
-    /// The next finding, or `None` where there is no other. Parts are read until one has a finding.
+    /// The next finding, or `None` where there is no other. Parts are read until one has a finding. Each call names the same kind
+    /// of filter.
     ///
     /// At `Err` memory ran out or the device failed, and what was given is the beginning of what there is to find; the check is not
     /// asked again.
@@ -104,6 +109,7 @@ impl Check {
             (AreLeft F.spelling F.first_fault (D.world disk.old).seen.held self.old [])
             (λ f. AreLeft F.spelling F.first_fault (D.world disk.old).seen.held self.new later → AreLeft F.spelling F.first_fault (D.world disk.old).seen.held self.old (f ∷ later))) }
         ensures steps { IfOk result (λ found. IfSome found (λ _. steps_left self.new < steps_left self.old)) }
+        ensures ended { IfOk result (λ found. found ≡ None → (waiting self.new ≡ []) × (self.new.stage ≡ End)) }
         ensures cause { IfErr result (HasCause (D.world disk.old) (D.world disk.new)) }
         ensures not_a_store { IfErr result IsFree }
         ensures moves { OnlyReads (D.world disk.old) (D.world disk.new) }
@@ -112,6 +118,18 @@ impl Check {
             self.look::<F, D>(disk)?;
         }
         Ok(self.give())
+    }
+
+    /// What the store has, once [`next`](Check::next) gave nothing at all. All of it is read again: the pairs are counted by one
+    /// merge of the tables and the log. It takes the memory of an opened store, and of a block and a key for each table.
+    ///
+    /// At `Err` memory ran out or the device failed; or it does not hold any more what it held when it was read before.
+    pub fn summary<F: RangeFilter, D: Disk>(&self, disk: &mut D) -> Result<Summary, SummaryError>
+        ensures summary { (s : State) → IsTrue D.tells → IsStateOf F.spelling s (D.world disk.old).seen.held → MatchResult result (IsSummaryOf s) IsUndamaged }
+        ensures cause { IfErr result (HasSummaryCause (D.world disk.old) (D.world disk.new)) }
+        ensures moves { OnlyReads (D.world disk.old) (D.world disk.new) }
+    {
+        summarize::<F, D>(self.alloc, disk)
     }
 
     // Whether nothing waits, and a part is left to look at.
@@ -253,15 +271,4 @@ fn one_finding(alloc: Global, damage: Damage) -> Result<Vec<Finding>, AllocError
     let mut found = Vec::new(alloc);
     add(&mut found, Some(found_by(damage)))?;
     Ok(found)
-}
-
-// A record of the log that breaks a rule.
-fn broken_log(at: u64, rule: u8) -> Finding
-    ensures { result ≡ finding Part.Log at (BrokenRule rule) }
-{
-    Finding {
-        part: Part::Log,
-        at,
-        what: What::BrokenRule { rule },
-    }
 }

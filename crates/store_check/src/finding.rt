@@ -1,6 +1,6 @@
 //! What a check finds.
 ghost use Rattle.std.specs.Prelude.{◌≡◌, ◌∷◌, ◌++◌, [], Some, OnOk, OnErr};
-ghost use Rattle.image_model.specs.Findings.{found_by as said_of};
+ghost use Rattle.image_model.specs.Findings.{BrokenRule, finding as said_finding, found_by as said_of};
 ghost use Rattle.store_check.specs.Lists.{listed};
 
 use byte_fields::{Damage, Part};
@@ -59,6 +59,17 @@ pub(crate) fn found_by(damage: Damage) -> Finding
             at,
             what: What::BrokenRule { rule },
         },
+    }
+}
+
+/// A record of the log that breaks a rule.
+pub(crate) fn broken_log(at: u64, rule: u8) -> Finding
+    ensures { result ≡ said_finding Part.Log at (BrokenRule rule) }
+{
+    Finding {
+        part: Part::Log,
+        at,
+        what: What::BrokenRule { rule },
     }
 }
 

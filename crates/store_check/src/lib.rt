@@ -11,7 +11,7 @@
 //! ```text
 //! let mut check = Check::start(alloc, &mut disk)?;
 //! while let Some(finding) = check.next::<F, D>(&mut disk)? { .. }
-//! // none was given: the device holds a store
+//! // none was given: the device holds a store, if it holds bytes
 //! ```
 #![tactic(auto)]
 
@@ -22,10 +22,13 @@ mod error;
 mod filter;
 mod finding;
 mod keys;
+mod live;
 mod order;
 mod stage;
+mod summary;
 mod table;
 
 pub use check::Check;
 pub use error::CheckError;
 pub use finding::{Finding, What};
+pub use summary::{Summary, SummaryError};
