@@ -1,4 +1,5 @@
 //! A version of as many tables as there may be.
+use crate::asserts::check_same;
 use crate::damage::sum_of;
 use crate::runs::{Succinct, check, formatted, opened, served};
 use disk_mem::MemDisk;
@@ -96,7 +97,7 @@ fn a_put_refused_by_1024_tables_makes_no_call(rt: HostRuntime) -> Result<(), Fai
     fill(alloc, &mut disk)?;
     let mut store = opened(alloc, &mut disk)?;
     let refused = refusal(alloc, &mut store, &mut disk)?;
-    assert_eq!(rt; refused, Some((StoreError::Limit(Limit::Tables), 0)));
+    check_same(&rt, &refused, &Some((StoreError::Limit(Limit::Tables), 0)));
     Ok(())
 }
 
@@ -109,11 +110,12 @@ fn a_long_put_is_refused_by_1024_tables(rt: HostRuntime) -> Result<(), Fail> {
     let mut store = opened(alloc, &mut disk)?;
     let value = sevens(alloc, 65_537)?;
     let calls = disk.calls();
-    assert_eq!(rt;
-        store.put(&mut *disk, b"a", &value),
-        Err(StoreError::Limit(Limit::Tables))
+    check_same(
+        &rt,
+        &store.put(&mut *disk, b"a", &value),
+        &Err(StoreError::Limit(Limit::Tables)),
     );
-    assert_eq!(rt; disk.calls(), calls);
-    assert_eq!(rt; store.put(&mut *disk, b"a", b"b"), Ok(()));
+    check_same(&rt, &disk.calls(), &calls);
+    check_same(&rt, &store.put(&mut *disk, b"a", b"b"), &Ok(()));
     Ok(())
 }

@@ -1,4 +1,5 @@
 //! What a format writes of the settings that its words name.
+use crate::asserts::check_that_at;
 use crate::runs::{check, commanded, disk_of, formatted};
 use std::test::Fail;
 
@@ -32,7 +33,7 @@ fn settings_are_those_of_the_words(rt: HostRuntime) -> Result<(), Fail> {
     for (words, settings) in EXAMPLES {
         let disk = formatted(alloc, words)?;
         let written = disk.bytes().get(28..32);
-        assert!(rt; written == Some(settings.as_slice()), "{words}");
+        check_that_at(&rt, &words, written == Some(settings.as_slice()));
     }
     Ok(())
 }

@@ -1,9 +1,10 @@
 //! A store that the program of the stage before left: its table has blocks of format 1, and its log has records.
-use crate::formats::stands;
+use crate::asserts::check_that;
 use crate::runs::{Ended, check, disk_of, served};
 use disk_mem::MemDisk;
 use std::alloc::{AllocError, Global};
 use std::test::Fail;
+use test_runs::stands;
 
 // The bytes that are not 0 of a device of 512 pages, its slots and the values of 616131 apart, with four hash bits, three real bits
 // and the ratio 16: behind puts of 616131 and of 616231 and a flush, and then a put of 616331 and a del of 616231. They are spelled
@@ -151,7 +152,7 @@ fn a_store_of_old_blocks_is_served_and_compacted(rt: HostRuntime) -> Result<(), 
         let (end, said) = compacted(alloc, device(alloc, slots)?)?;
         check(&rt, &end, 0, &said, 0);
         for (place, block) in NEW_BLOCKS {
-            assert!(rt; stands(&end.disk, place, block));
+            check_that(&rt, stands(&end.disk, place, block));
         }
         let again = served(alloc, end.disk, GETS)?;
         let mut found = Vec::new(alloc);

@@ -1,4 +1,5 @@
 //! What is told of a device of which some bytes are others, and of a read that fails.
+use crate::asserts::{check_same, check_that, check_that_at};
 use crate::runs::{base_disk, calls_of, check, commanded, disk_of, failing, left_behind, served};
 use disk_mem::MemDisk;
 use disk_trait::{Disk, DiskFault};
@@ -71,7 +72,7 @@ fn each_line_that_reads_tells_of_a_damaged_block(rt: HostRuntime) -> Result<(), 
     for (number, line) in lines.into_iter().enumerate() {
         let end = served(alloc, disk_of(alloc, first.bytes())?, line)?;
         check(&rt, &end, 5, told, number as u64);
-        assert!(rt; end.disk.bytes() == first.bytes(), "line {number}");
+        check_that_at(&rt, &number, end.disk.bytes() == first.bytes());
     }
     Ok(())
 }
@@ -84,11 +85,14 @@ fn new_numbers_are_set_beside_a_damaged_block(rt: HostRuntime) -> Result<(), Fai
     first.write(786_440, &[3])?;
     let few = commanded(alloc, "grow --pages 511", disk_of(alloc, first.bytes())?)?;
     check(&rt, &few, 8, b"bad settings pages\n", 0);
-    assert!(rt; few.disk.bytes() == first.bytes());
+    check_that(&rt, few.disk.bytes() == first.bytes());
     let words = "settings --variant hash";
     let end = commanded(alloc, words, disk_of(alloc, first.bytes())?)?;
     check(&rt, &end, 0, b"settings 8 0 64\n", 1);
-    assert!(rt; end.disk.bytes().get(131_072..) == first.bytes().get(131_072..));
+    check_that(
+        &rt,
+        end.disk.bytes().get(131_072..) == first.bytes().get(131_072..),
+    );
     let read = served(alloc, end.disk, b"seek 61 62\n")?;
     let told = b"damaged block 786432 sum 587b62ad428b4221 1330a17f9fbb1d44\n";
     check(&rt, &read, 5, told, 2);
@@ -103,6 +107,6 @@ fn a_read_that_fails_is_not_tried_again(rt: HostRuntime) -> Result<(), Fail> {
     let disk = failing(alloc, &first, opened as u64)?;
     let end = served(alloc, disk, b"get 61\nget 61\n")?;
     check(&rt, &end, 4, b"device\n", 0);
-    assert_eq!(rt; end.disk.calls(), opened.saturating_add(1));
+    check_same(&rt, &end.disk.calls(), &opened.saturating_add(1));
     Ok(())
 }

@@ -1,10 +1,12 @@
 //! Lines and their replies, and the bytes that they leave.
+use crate::asserts::check_same;
 use crate::runs::{Succinct, base_disk, check, disk_of, served, served_by};
 use disk_trait::Disk;
 use filter_api::RangeFilter;
 use plain_filter::PlainFilter;
 use std::alloc::{AllocError, Global};
 use std::test::Fail;
+use test_runs::LAST_EPOCH_SUM;
 
 const EXAMPLES: [(&[u8], &[u8]); 16] = [
     (b"put 61 62\nget 61\nquit\n", b"ok\nval 62\nbye\n"),
@@ -58,9 +60,6 @@ const EXAMPLES: [(&[u8], &[u8]); 16] = [
     (b"quit\nget 61\n", b"bye\n"),
 ];
 
-/// The sum of the manifest's body with the epoch 2^64 - 1, least byte first.
-pub const LAST_EPOCH_SUM: [u8; 8] = [0x3d, 0xc3, 0x25, 0x2c, 0x11, 0xb4, 0xbf, 0x37];
-
 // The first example whose lines get other replies by this kind of filter.
 fn other_example<F: RangeFilter>(alloc: Global) -> Result<Option<usize>, Fail> {
     for (number, (lines, replies)) in EXAMPLES.iter().copied().enumerate() {
@@ -74,8 +73,8 @@ fn other_example<F: RangeFilter>(alloc: Global) -> Result<Option<usize>, Fail> {
 
 #[test]
 fn each_line_gets_its_reply(rt: HostRuntime) -> Result<(), Fail> {
-    assert_eq!(rt; other_example::<Succinct>(rt.alloc())?, None);
-    assert_eq!(rt; other_example::<PlainFilter>(rt.alloc())?, None);
+    check_same(&rt, &other_example::<Succinct>(rt.alloc())?, &None);
+    check_same(&rt, &other_example::<PlainFilter>(rt.alloc())?, &None);
     Ok(())
 }
 
@@ -85,7 +84,7 @@ fn a_put_leaves_the_bytes_of_its_record(rt: HostRuntime) -> Result<(), Fail> {
     let mut end = served(alloc, base_disk(alloc)?, b"put 61 62\n")?;
     let mut bytes = [9; 11];
     end.disk.read(262_144, &mut bytes)?;
-    assert_eq!(rt; bytes, [1, 1, 1, 0, 1, 0, 0, 0, 0x61, 0x62, 0]);
+    check_same(&rt, &bytes, &[1, 1, 1, 0, 1, 0, 0, 0, 0x61, 0x62, 0]);
     Ok(())
 }
 
@@ -138,7 +137,7 @@ fn a_damaged_block_is_told_where_it_is_read(rt: HostRuntime) -> Result<(), Fail>
     let sums = b"damaged block 786432 sum 587b62ad428b4221 1330a17f9fbb1d44\n";
     check(&rt, &told, 5, sums, 1);
     let read = told.disk.reads().saturating_sub(reads);
-    assert_eq!(rt; read, opening.saturating_mul(2).saturating_add(1));
+    check_same(&rt, &read, &opening.saturating_mul(2).saturating_add(1));
     Ok(())
 }
 

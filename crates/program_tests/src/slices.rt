@@ -1,5 +1,5 @@
 //! Merge slices behind puts and deletes.
-use crate::faults::push_large;
+use crate::asserts::{check_that, check_that_at};
 use crate::runs::{
     base_disk, calls_of, check, disk_of, failing, left_behind, lost, served, written,
 };
@@ -7,19 +7,11 @@ use disk_mem::MemDisk;
 use disk_trait::Disk;
 use std::alloc::Global;
 use std::test::Fail;
-
-// Four tables of a pair each, all of level 0.
-const FOUR_TABLES: &[u8] =
-    b"put 61 01\nflush\nput 62 02\nflush\nput 63 03\nflush\nput 64 04\nflush\n";
+use test_runs::{four_tables, push_large};
 
 const GETS: &[u8] = b"get 61\nget 62\nget 63\nget 64\nget 65\n";
 
 const FOUND: &[u8] = b"val 01\nval 02\nval 03\nval 04\nval 05\n";
-
-/// A disk of a store with four tables of a pair each, which the next merge slice makes one.
-pub fn four_tables(alloc: Global) -> Result<Box<MemDisk>, Fail> {
-    left_behind(alloc, base_disk(alloc)?, FOUR_TABLES)
-}
 
 // Four blocks are one merge slice: behind the put the tables are one. A limit has a merge slice behind it too, a bad
 // line has none.
@@ -71,12 +63,12 @@ fn a_fault_in_a_slice_ends_the_run(rt: HostRuntime) -> Result<(), Fail> {
     let first = four_tables(alloc)?;
     let opened = calls_of(alloc, &first, b"")?;
     let whole = calls_of(alloc, &first, b"put 65 05\n")?;
-    assert!(rt; whole > opened.saturating_add(12));
+    check_that(&rt, whole > opened.saturating_add(12));
     for call in opened.saturating_add(4)..whole {
         let disk = failing(alloc, &first, call as u64)?;
         let end = served(alloc, disk, b"put 65 05\nget 61\n")?;
         check(&rt, &end, 4, b"ok\n", call as u64);
-        assert!(rt; outlasts(alloc, &end.disk)?, "call {call}");
+        check_that_at(&rt, &call, outlasts(alloc, &end.disk)?);
     }
     Ok(())
 }

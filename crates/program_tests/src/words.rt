@@ -1,8 +1,9 @@
 //! What the words ask for.
+use crate::asserts::check_same;
 use crate::runs::{base_disk, check, commanded, disk_of, served};
 use std::test::Fail;
 
-const USAGE: &[u8] = b"usage: surfstore PATH format|serve|load|settings|grow\n";
+const USAGE: &[u8] = b"usage: surfstore PATH format|serve|load|settings|grow|check\n";
 
 // Words over a device without a store, the status, and the line that is said.
 const EXAMPLES: [(&str, u8, &[u8]); 18] = [
@@ -77,7 +78,7 @@ fn settings_out_of_range_are_told_before_any_call(rt: HostRuntime) -> Result<(),
     let alloc = rt.alloc();
     let words = "format --pages 511 --variant base";
     let end = commanded(alloc, words, disk_of(alloc, b"")?)?;
-    assert_eq!(rt; end.disk.calls(), 0);
+    check_same(&rt, &end.disk.calls(), &0);
     Ok(())
 }
 
@@ -117,8 +118,8 @@ fn missing(text: &[u8]) -> Option<&'static str> {
 fn help_tells_each_option(rt: HostRuntime) -> Result<(), Fail> {
     let alloc = rt.alloc();
     let end = commanded(alloc, "--help", disk_of(alloc, b"")?)?;
-    assert_eq!(rt; end.status, 0);
-    assert_eq!(rt; missing(end.said.as_slice()), None);
+    check_same(&rt, &end.status, &0);
+    check_same(&rt, &missing(end.said.as_slice()), &None);
     Ok(())
 }
 

@@ -12,7 +12,7 @@ use Rattle.filter_api.specs.declared.settings.Field.{Field}
 use Rattle.filter_api.specs.declared.settings.Field.TheVariants as field
 use Rattle.filter_api.specs.declared.settings.Settings.{Settings}
 use Rattle.key_base.specs.Limits.{max_hash_bits, max_ratio, max_real_bits}
-use Rattle.program_words.specs.Asked.{AreRefusedWords, HasBadNumber, IsFormat, IsGrow, IsHelp, IsLoad, IsLoadInRange, IsServe, IsSettings, IsSettingsInRange, IsSubcommand, OpensStore, OpensWithoutGrowing, is_request, load_of, option_number, wanted_of, wanted_settings_of}
+use Rattle.program_words.specs.Asked.{AreRefusedWords, HasBadNumber, IsCheck, IsFormat, IsGrow, IsHelp, IsLoad, IsLoadInRange, IsServe, IsSettings, IsSettingsInRange, IsSubcommand, OpensStore, OpensWithoutGrowing, is_request, load_of, option_number, wanted_of, wanted_settings_of}
 use Rattle.program_words.specs.CommandLine.{store_app}
 use Rattle.program_words.specs.Loads.{is_load_count}
 use Rattle.program_words.specs.NewStores.{IsStoreOf, first_bad_word}
@@ -116,6 +116,9 @@ serve_not_bad words field is bad = other_not_bad words (codes "serve") field ref
 pub grow_not_bad : (words : List Text) (pages : ℕ) (field : Field) → IsGrow words pages → HasBadNumber words field → ⊥
 grow_not_bad words pages field is bad = other_not_bad words (codes "grow") field refl refl refl refl (is.0, is.1) bad
 
+pub check_not_bad : (words : List Text) (field : Field) → IsCheck words → HasBadNumber words field → ⊥
+check_not_bad words field is bad = other_not_bad words (codes "check") field refl refl refl refl is bad
+
 -- of two numbers out of range, the first of one subcommand
 pub same_field : (words : List Text) (x y : Field) → HasBadNumber words x → HasBadNumber words y → x ≡ y
 same_field words x y a b = elim a [
@@ -201,6 +204,18 @@ module _ (words : List Text) where
       | inl load ↦ apart words (codes "grow") (codes "load") refl refl (grow.0, grow.1) (load.1.0.0, load.1.0.1)
       | inr settings ↦ apart words (codes "grow") (codes "settings") refl refl (grow.0, grow.1) (settings.1.1.0, settings.1.1.1)
     ]
+  ]
+
+  pub opens_not_check : OpensStore words → IsCheck words → ⊥
+  opens_not_check is check = elim is [
+    | inl fits ↦ elim fits [
+      | inl serve ↦ apart words (codes "check") (codes "serve") refl refl check serve
+      | inr more ↦ elim more [
+        | inl load ↦ apart words (codes "check") (codes "load") refl refl check (load.1.0.0, load.1.0.1)
+        | inr settings ↦ apart words (codes "check") (codes "settings") refl refl check (settings.1.1.0, settings.1.1.1)
+      ]
+    ]
+    | inr grow ↦ apart words (codes "check") (codes "grow") refl refl check (grow.1.0, grow.1.1)
   ]
 
   -- words that are taken and not out of range ask for something

@@ -74,6 +74,9 @@ IsSettings words wanted = (rows : List Row) × IsSubcommand words (codes "settin
 abbrev pub IsGrow : List Text → ℕ → Type 0
 IsGrow words pages = (rows : List Row) × IsSubcommand words (codes "grow") rows × (option_number (codes "pages") rows ≡ pages)
 
+abbrev pub IsCheck : List Text → Type 0
+IsCheck words = (rows : List Row) × IsSubcommand words (codes "check") rows
+
 -- a load that has not too many steps, and settings that are in range
 abbrev pub IsLoadInRange : List Text → Load → Type 0
 IsLoadInRange words load = IsLoad words load × (is_load_count load.count ≡ true)
@@ -112,16 +115,18 @@ WordsAsk words asked.Serve = IsServe words
 WordsAsk words (asked.Load load) = IsLoadInRange words load
 WordsAsk words (asked.Settings settings) = IsSettingsInRange words settings
 WordsAsk words (asked.Grow pages) = IsGrow words pages
+WordsAsk words asked.Check = IsCheck words
 WordsAsk words (asked.Help text) = IsHelp words
 WordsAsk words asked.Refused = AreRefusedWords words
 WordsAsk words asked.Memory = Unit {0}
 
 -- ---- on the way
 
--- a subcommand of the five
+-- a subcommand of the six
 abbrev pub IsKnown : Option (Text × List Row) → Type 0
 IsKnown None = ⊥
-IsKnown (Some found) = (found.0 ≡ codes "format") ⊎ (found.0 ≡ codes "serve") ⊎ (found.0 ≡ codes "load") ⊎ (found.0 ≡ codes "settings") ⊎ (found.0 ≡ codes "grow")
+IsKnown (Some found) =
+    (found.0 ≡ codes "format") ⊎ (found.0 ≡ codes "serve") ⊎ (found.0 ≡ codes "load") ⊎ (found.0 ≡ codes "settings") ⊎ (found.0 ≡ codes "grow") ⊎ (found.0 ≡ codes "check")
 
 -- an answer without matches, by its kind; a text that was asked for may have found no memory
 abbrev pub ComesOf : ErrorKind → Asked → Type 0
@@ -131,6 +136,7 @@ ComesOf kind asked.Serve = ⊥
 ComesOf kind (asked.Load load) = ⊥
 ComesOf kind (asked.Settings settings) = ⊥
 ComesOf kind (asked.Grow pages) = ⊥
+ComesOf kind asked.Check = ⊥
 ComesOf kind (asked.Help text) = is_request kind ≡ true
 ComesOf kind asked.Refused = (is_request kind ≡ false) × (kind ≢ OutOfMemory)
 ComesOf kind asked.Memory = (kind ≡ OutOfMemory) ⊎ (is_request kind ≡ true)

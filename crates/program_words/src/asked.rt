@@ -33,6 +33,8 @@ pub enum Asked {
     Settings(Settings),
     /// That the store gets so many pages, in range or not: that is seen by the pages that it has.
     Grow(u64),
+    /// That the whole store is read, and what is wrong is said.
+    Check,
     /// A text: help, or the version.
     Help(String),
     /// Nothing: clap refuses the words.
@@ -112,8 +114,11 @@ fn asked_by(matches: &ArgMatches<'_>) -> Asked
             Err(field) => Asked::BadSettings(field),
         };
     }
-    match matches.subcommand_matches("grow") {
-        Some(options) => Asked::Grow(number(options, "pages")),
+    if let Some(options) = matches.subcommand_matches("grow") {
+        return Asked::Grow(number(options, "pages"));
+    }
+    match matches.subcommand_matches("check") {
+        Some(_) => Asked::Check,
         None => Asked::Serve,
     }
 }

@@ -3,7 +3,7 @@ ghost use Rattle.std.specs.Prelude.{◌≡◌, IfOk, codes, false};
 ghost use Rattle.clap.specs.Simple.{app_of, with_rule};
 ghost use Rattle.clap.specs.Walk.{rule_of};
 ghost use Rattle.clap.specs.declared.builder.command.Command.TheViews.{out-Command as fields_of};
-ghost use Rattle.program_words.specs.CommandLine.{format_app, grow_app, load_app, number_rule, option_rule, required, serve_app, settings_app, store_app, with_default, with_filter_options, with_number_options, with_pages_option};
+ghost use Rattle.program_words.specs.CommandLine.{check_app, format_app, grow_app, load_app, number_rule, option_rule, required, serve_app, settings_app, store_app, with_default, with_filter_options, with_number_options, with_pages_option};
 
 use clap::{Arg, Command, value_parser};
 use std::alloc::{AllocError, Global};
@@ -19,6 +19,8 @@ const LOAD_ABOUT: &str = "Make puts and deletes that follow from a seed, and sum
 const SETTINGS_ABOUT: &str = "Change the filters of new tables; old tables keep theirs";
 
 const GROW_ABOUT: &str = "Give the store more pages, for good";
+
+const CHECK_ABOUT: &str = "Read the whole store, and say what is wrong with it";
 
 // What the prompt answers, behind the help of the program and of `serve`.
 const ANSWERS: &str = "\
@@ -77,7 +79,8 @@ Exit statuses:
   3  the input failed              7  no memory to begin with
   4  the device failed             8  no store there, a store there already, or
   9  2^40 bytes of input              settings out of range
- 10  limit epoch, of settings and grow: the store is as before";
+ 10  limit epoch, of settings and grow: the store is as before
+ 12  check found what is wrong: its lines say where";
 
 // How large a store is made, behind the help of `format`.
 const ROOM: &str = "\
@@ -105,6 +108,22 @@ or where the file system is full, a later write may fail, which ends that run.
 No call takes pages back. Example:
   $ surfstore db grow --pages 2097152
   grown 2097152";
+
+// What a check says, behind the help of `check`.
+const FINDINGS: &str = "\
+It changes nothing. A line for each thing that is wrong, and then how many:
+  finding PART AT sum KEPT SEEN  the part's bytes have another sum than is kept
+  finding PART AT rule R         they break rule R of their format
+  finding block AT keys          the block has other keys than its index says, or
+                                 they are not above those of the block before
+  finding index AT count         the table has other entries than its row says
+  finding filter AT leaf N       leaf N of the filter is not that of the keys
+  findings N                     with status 12
+PART is manifest, index, block, filter or log, AT a byte of the file. Where
+nothing is wrong, with status 0: the tables, their entries, the pairs that there
+are, and the records of the log:
+  $ surfstore db check
+  clean tables 1 entries 1 live 1 log 0";
 
 // An option with a number of its own, which its help calls by a letter.
 fn number_option<'a>(alloc: Global, name: &'a str, letter: &'a str, help: &'a str) -> Arg<'a>
@@ -265,6 +284,16 @@ fn serve_command<'a>(alloc: Global) -> Command<'a>
         .override_usage("surfstore PATH serve")
 }
 
+fn check_command<'a>(alloc: Global) -> Command<'a>
+    ensures app { app_of result ≡ check_app }
+    ensures local { (fields_of result).has_globals ≡ false }
+{
+    Command::new(alloc, "check")
+        .about(CHECK_ABOUT)
+        .after_help(FINDINGS)
+        .override_usage("surfstore PATH check")
+}
+
 fn load_command<'a>(alloc: Global) -> Result<Command<'a>, AllocError>
     ensures app { IfOk result (λ c. app_of c ≡ load_app) }
     ensures local { IfOk result (λ c. (fields_of c).has_globals ≡ false) }
@@ -303,5 +332,6 @@ pub fn store_command<'a>(alloc: Global) -> Result<Command<'a>, AllocError>
     let with_serve = with_format.subcommand(serve_command(alloc))?;
     let with_load = with_serve.subcommand(load)?;
     let with_settings = with_load.subcommand(settings)?;
-    with_settings.subcommand(grow)
+    let with_grow = with_settings.subcommand(grow)?;
+    with_grow.subcommand(check_command(alloc))
 }

@@ -2,6 +2,7 @@ pub mod Asking
 pub mod Calms
 pub mod Chaining
 pub mod Changes
+pub mod Checked
 pub mod Compacts
 pub mod CrashReplies
 pub mod Dialogues

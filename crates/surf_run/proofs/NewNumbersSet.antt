@@ -369,7 +369,7 @@ no_store_told spelling rule image status old new none eight = elim none.line.3 [
 ]
 
 -- the statuses of a reset are statuses of a run
-pub reset_as_statuses : (status : ℕ) → IsResetting status → IsServing status ⊎ (status ≡ 2) ⊎ (status ≡ 5) ⊎ (status ≡ 7) ⊎ (status ≡ 8) ⊎ (status ≡ 10)
+pub reset_as_statuses : (status : ℕ) → IsResetting status → IsServing status ⊎ (status ≡ 2) ⊎ (status ≡ 5) ⊎ (status ≡ 7) ⊎ (status ≡ 8) ⊎ (status ≡ 10) ⊎ (status ≡ 12)
 reset_as_statuses status is = elim is [
   | inl zero ↦ inl (inl zero)
   | inr more ↦ elim more [
@@ -380,7 +380,7 @@ reset_as_statuses status is = elim is [
         | inl six ↦ inl (inr (inr (inr (inl six))))
         | inr more ↦ elim more [
           | inl seven ↦ inr (inr (inr (inl seven)))
-          | inr more ↦ elim more [ inl eight ↦ inr (inr (inr (inr (inl eight)))) | inr ten ↦ inr (inr (inr (inr (inr ten)))) ]
+          | inr more ↦ elim more [ inl eight ↦ inr (inr (inr (inr (inl eight)))) | inr ten ↦ inr (inr (inr (inr (inr (inl ten))))) ]
         ]
       ]
     ]

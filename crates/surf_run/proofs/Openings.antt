@@ -1,5 +1,6 @@
 -- A store is opened, or not.
-use Rattle.std.proofs.Common.{◌≡◌, ◌≢◌, ◌⊎◌, ◌≤◌, ◌*◌, ◌∙◌, ◌++◌, [], inl, inr, refl, sym, ap, subst, arith, ℕ, length}
+use Rattle.std.proofs.Common.{◌≡◌, ◌≢◌, ◌⊎◌, ◌≤◌, ◌*◌, ◌∙◌, ◌++◌, [], inl, inr, refl, sym, ap, subst, arith, ℕ, Bool, length}
+use Rattle.std.specs.Prelude.{IsTrue}
 use Rattle.byte_fields.specs.Faults.{Fault}
 use Rattle.byte_fields.specs.declared.parts.Damage.{Damage}
 use Rattle.block_model.specs.Pages.{page_bytes}
@@ -28,7 +29,7 @@ use Rattle.surf_run.specs.Causes.{DiskFailed, SayFailed, StatusCause, WritesWith
 use Rattle.surf_run.specs.Crash.{EachImageStandsFor, HasMap}
 use Rattle.surf_run.specs.ServedOrNot.{TellsDamage}
 use Rattle.surf_run.specs.Kind.{Kind}
-use Rattle.surf_run.specs.Open.{IsFreeText, IsOpening, IsOpeningText, OpenMoves, opening_status, opening_text}
+use Rattle.surf_run.specs.Open.{IsFreeText, IsOpening, IsOpeningText, OpeningEnds, OpenMoves, OpensNothing, opening_status, opening_text}
 use Rattle.surf_run.specs.Serving.{ServeInvariant}
 use Rattle.surf_run.proofs.EndCauses.{disk_then, no_fall_none, no_fall_say, rose_since}
 use Rattle.surf_run.proofs.Footprint.{within_none, within_on, within_still}
@@ -49,6 +50,14 @@ open_moves most a b moves = record {
   held = torn_none a.seen.held b.seen.held moves.torn;
   beside = moves.beside;
   time = passes_other (Torn 0 0) Same a b torn_none moves.time;
+}
+
+-- there is a store
+pub opened_ends : (spelling : Spelling) (first : Bytes → Fault) (tells output : Bool) (status : ℕ) (old new : World) → (IsTrue tells → OpensNothing spelling first old.seen.held → ⊥) → OpeningEnds spelling first tells output status old new
+opened_ends spelling first tells output status old new opens = record {
+  unopened = λ told said nothing. absurd (opens told nothing);
+  told_of_damage = λ d told damaged. absurd (opens told (inr (d, damaged)));
+  told_of_no_store = λ told none. absurd (opens told (inl none));
 }
 
 -- ---- an opened store has served nothing

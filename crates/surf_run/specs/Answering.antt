@@ -18,6 +18,7 @@ use Rattle.surf_run.specs.Dialogue.{IsBounded, reply_bound}
 use Rattle.surf_run.specs.Kind.{Kind}
 use Rattle.surf_run.specs.declared.line_end.LineEnd.{LineEnd}
 use Rattle.surf_run.specs.declared.line_end.LineEnd.TheVariants.{End, Next, Quit}
+use Rattle.surf_run.specs.Statuses.{device_status, output_status}
 
 -- Before the reply's first byte an image has the map before the line or the one behind the reply; from then on the one behind it.
 abbrev pub InLine : Kind → State → Request → Reply → State → ℕ → ℕ → ℕ → Image → Type 0
@@ -43,7 +44,7 @@ SaysOnward a b = (reply : Reply) × (turn_of reply ≡ Onward) × Whole reply a 
 -- how a line ends the run: with a reply said that ends in `device`, or with its reply not said whole
 abbrev pub EndStatusOfReply : Kind → ℕ → Reply → State → World → World → Type 0
 EndStatusOfReply kind status reply new a b =
-    ((status ≡ 4) × (turn_of reply ≡ Over AtDevice) × Whole reply a b × (reply ≢ Device → EachImageStandsFor kind new b)) ⊎ ((status ≡ 6) × (reply ≢ Device → EachImageStandsFor kind new b))
+    ((status ≡ device_status) × (turn_of reply ≡ Over AtDevice) × Whole reply a b × (reply ≢ Device → EachImageStandsFor kind new b)) ⊎ ((status ≡ output_status) × (reply ≢ Device → EachImageStandsFor kind new b))
 
 -- How a line ended over a store that was that of a state. Where the store is not stopped, it is that of the state behind the line.
 abbrev pub EndsLine : Kind → LineEnd → State → Request → StoreValue → World → World → Type 0

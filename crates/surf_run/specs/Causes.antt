@@ -9,7 +9,7 @@ use Rattle.line_model.specs.Requests.{Compact, Count, Get, Range, Request, Seek}
 use Rattle.map_model.specs.SortedMap.{Bytes}
 use Rattle.state_model.specs.PlayLaws.{has_slice}
 use Rattle.state_model.specs.Script.{Onward, turn_of}
-use Rattle.store_core.specs.Getting.{IsFaultIn}
+use Rattle.store_search.specs.Searching.{IsFaultIn}
 use Rattle.store_core.specs.Scans.{IsScanShown}
 use Rattle.store_core.specs.StoreValue.{StoreValue}
 use Rattle.store_core.specs.declared.error.StoreError.{StoreError}
@@ -18,6 +18,7 @@ use Rattle.surf_run.specs.declared.line_end.LineEnd.{LineEnd}
 use Rattle.surf_run.specs.declared.line_end.LineEnd.TheVariants.{Next, Quit, End}
 use Rattle.table_file.specs.Opened.{Opened}
 use Rattle.table_file.specs.declared.fault.TableFault.TheVariants.{Damaged}
+use Rattle.surf_run.specs.Statuses.{done_status, input_status, device_status, damaged_status, output_status, memory_status, limit_status}
 
 -- no count of faults falls
 pub record NoFall (old new : World) : Type 0 where
@@ -38,14 +39,14 @@ SayFailed old new = Rose old.beside.say_faults new.beside.say_faults
 
 -- a status that tells of a fault comes only where the count of such faults rose
 pub record StatusCause (status : ℕ) (old new : World) : Type 0 where
-  pub taking : status ≡ 3 → TakeFailed old new
-  pub device : status ≡ 4 → DiskFailed old new
-  pub saying : status ≡ 6 → SayFailed old new
+  pub taking : status ≡ input_status → TakeFailed old new
+  pub device : status ≡ device_status → DiskFailed old new
+  pub saying : status ≡ output_status → SayFailed old new
 
 -- a run that only says a line ends with this status, or with 7 where there was no memory, or with 6 where the line could not be
 -- said whole
 abbrev pub EndsAt : ℕ → ℕ → World → World → Type 0
-EndsAt wanted status old new = (status ≡ wanted) ⊎ (status ≡ 7) ⊎ ((status ≡ 6) × SayFailed old new)
+EndsAt wanted status old new = (status ≡ wanted) ⊎ (status ≡ memory_status) ⊎ ((status ≡ output_status) × SayFailed old new)
 
 -- Nothing changes behind the first so many bytes: neither what the device reads as, nor what a crash may leave at any later
 -- moment, beside what it might have left at the start.
@@ -107,7 +108,7 @@ MeetsSomeDamage w = (tables : List Opened) × EndsOnward w × MeetsDamage tables
 abbrev pub EndCause : (World → Type 0) → LineEnd → World → World → Type 0
 EndCause Shows Next old new = Unit {0}
 EndCause Shows Quit old new = Unit {0}
-EndCause Shows (End status) old new = ((status ≡ 4) × DiskFailed old new) ⊎ ((status ≡ 5) × Shows new) ⊎ ((status ≡ 6) × SayFailed old new)
+EndCause Shows (End status) old new = ((status ≡ device_status) × DiskFailed old new) ⊎ ((status ≡ damaged_status) × Shows new) ⊎ ((status ≡ output_status) × SayFailed old new)
 
 -- where bytes are told: the damage of these tables that a request met
 abbrev pub LineShows : Type 0 → List Opened → Request → World → Type 0
@@ -138,4 +139,4 @@ RunShows Told w = Told → ShowsSomeDamage w
 
 -- the statuses with which serving ends
 abbrev pub IsServing : ℕ → Type 0
-IsServing status = (status ≡ 0) ⊎ (status ≡ 3) ⊎ (status ≡ 4) ⊎ (status ≡ 6) ⊎ (status ≡ 9)
+IsServing status = (status ≡ done_status) ⊎ (status ≡ input_status) ⊎ (status ≡ device_status) ⊎ (status ≡ output_status) ⊎ (status ≡ limit_status)

@@ -5,6 +5,7 @@ use Rattle.map_model.specs.SortedMap.{Bytes}
 use Rattle.store_core.specs.declared.error.StoreError.{StoreError}
 use Rattle.store_core.specs.declared.error.StoreError.TheVariants as error
 use Rattle.surf_run.specs.Formats.{already_text, bad_settings_text}
+use Rattle.surf_run.specs.Statuses.{done_status, device_status, memory_status, store_status}
 
 -- a cause that a format has
 abbrev pub IsOfFormat : StoreError → Type 0
@@ -19,11 +20,11 @@ IsOfFormat error.AlreadyAStore = Unit {0}
 IsOfFormat (error.BadSettings field) = Unit {0}
 
 abbrev pub refused_status : StoreError → ℕ
-refused_status error.Memory = 7
-refused_status (error.Device cause) = 4
-refused_status error.AlreadyAStore = 8
-refused_status (error.BadSettings field) = 8
-refused_status other = 0
+refused_status error.Memory = memory_status
+refused_status (error.Device cause) = device_status
+refused_status error.AlreadyAStore = store_status
+refused_status (error.BadSettings field) = store_status
+refused_status other = done_status
 
 abbrev pub refused_text : StoreError → Bytes
 refused_text error.Memory = line.text_of line.Memory

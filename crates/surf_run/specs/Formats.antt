@@ -14,6 +14,7 @@ use Rattle.map_model.specs.SortedMap.{Bytes}
 use Rattle.state_model.specs.State.{new_state}
 use Rattle.store_core.specs.Formatting.{IsNoneOrNew, first_bad}
 use Rattle.surf_run.specs.Unserved.{LastLine, Untouched}
+use Rattle.surf_run.specs.Statuses.{done_status, device_status, memory_status, store_status}
 
 -- ---- the lines
 
@@ -38,11 +39,11 @@ bad_settings_text field = codes "bad settings " ++ field_word field ++ 10 ∷ []
 -- bad one is this.
 abbrev pub IsFormatText : Option Field → Bool → ℕ → ℕ → Bytes → Type 0
 IsFormatText bad there pages status text =
-    ((bad ≡ None) × (there ≡ false) × (status ≡ 0) × (text ≡ formatted_text pages))
-    ⊎ ((bad ≡ None) × (there ≡ true) × (status ≡ 8) × (text ≡ already_text))
-    ⊎ ((bad ≡ None) × (there ≡ false) × (status ≡ 7) × (text ≡ text_of Memory))
-    ⊎ ((bad ≡ None) × (status ≡ 4) × (text ≡ text_of Device))
-    ⊎ ((field : Field) × (bad ≡ Some field) × (status ≡ 8) × (text ≡ bad_settings_text field))
+    ((bad ≡ None) × (there ≡ false) × (status ≡ done_status) × (text ≡ formatted_text pages))
+    ⊎ ((bad ≡ None) × (there ≡ true) × (status ≡ store_status) × (text ≡ already_text))
+    ⊎ ((bad ≡ None) × (there ≡ false) × (status ≡ memory_status) × (text ≡ text_of Memory))
+    ⊎ ((bad ≡ None) × (status ≡ device_status) × (text ≡ text_of Device))
+    ⊎ ((field : Field) × (bad ≡ Some field) × (status ≡ store_status) × (text ≡ bad_settings_text field))
 
 -- ---- what it leaves
 
@@ -58,6 +59,6 @@ pub record WritesInFront (old new : World) : Type 0 where
 pub record Formatted (spelling : Spelling) (settings : Settings) (pages status : ℕ) (old new : World) : Type 0 where
   pub line : LastLine (IsFormatText (first_bad settings pages) (has_open old.seen.held) pages) status old new
   pub meanwhile : Now IsNoStore old → Meanwhile (IsNoneOrNew spelling settings pages) old new
-  pub made : Now IsNoStore old → status ≡ 0 → Now (IsStateOf spelling (new_state settings pages)) new
+  pub made : Now IsNoStore old → status ≡ done_status → Now (IsStateOf spelling (new_state settings pages)) new
   pub stays : has_open old.seen.held ≡ true → Untouched old new
   pub refused : (field : Field) → first_bad settings pages ≡ Some field → Untouched old new

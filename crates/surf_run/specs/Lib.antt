@@ -6,6 +6,7 @@ pub use Rattle.state_model.specs.State
 pub mod Answering
 pub mod Causes
 pub mod Chaining
+pub mod Checks
 pub mod Crash
 pub mod Dialogue
 pub mod ServedOrNot
@@ -27,4 +28,5 @@ pub mod Run
 pub mod Saying
 pub mod Serving
 pub mod Slices
+pub mod Statuses
 pub mod Unserved

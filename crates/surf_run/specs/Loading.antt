@@ -20,6 +20,7 @@ use Rattle.surf_run.specs.Kind.{Kind}
 use Rattle.surf_run.specs.Loads.{FailsAt, HasFirstSteps, IsPassedOver, StepMade, StepsMade, change_of}
 use Rattle.surf_run.specs.Unserved.{LastLine}
 use Rattle.surf_run.specs.declared.line_end.LineEnd.TheVariants.{End}
+use Rattle.surf_run.specs.Statuses.{device_status, memory_status}
 
 -- ---- one step
 
@@ -53,8 +54,8 @@ stepped_map false map step = map
 -- device that failed.
 abbrev pub IsStepText : Kind → Entry → State → World → World → ℕ → Bytes → Type 0
 IsStepText kind step s a b status text =
-    ((status ≡ 7) × (text ≡ text_of Memory) × EachImageStandsFor kind s b × During (λ said image. HasMap kind s image) a b)
-    ⊎ ((status ≡ 4) × FailsAt (HasCause a b) kind.filter_bytes step s text)
+    ((status ≡ memory_status) × (text ≡ text_of Memory) × EachImageStandsFor kind s b × During (λ said image. HasMap kind s image) a b)
+    ⊎ ((status ≡ device_status) × FailsAt (HasCause a b) kind.filter_bytes step s text)
 
 -- The change of a step was made: the store is that of the state behind it.
 abbrev pub IsChanged : Kind → Entry → State → StoreValue → World → World → Bool → Type 0
@@ -77,7 +78,7 @@ pub record StepEnds (IsMade : Bool → Type 0) (most : ℕ) (kind : Kind) (step 
 
 -- why a run ends in a step
 abbrev pub StepCause : Type 0 → ℕ → World → World → Type 0
-StepCause Told status a b = (status ≡ 7) ⊎ EndCause (λ w. Told → MeetsUnsaid a w) (End status) a b
+StepCause Told status a b = (status ≡ memory_status) ⊎ EndCause (λ w. Told → MeetsUnsaid a w) (End status) a b
 
 -- What it promises over a running store, with so many blocks read: where it was made nothing is said, and the store runs.
 pub record MakesStep (IsMade : State → Bool → Type 0) (most : ℕ) (kind : Kind) (tells tells_output : Bool) (step : Entry) (result : Result Bool ℕ) (store new : StoreValue) (a b : World) : Type 0 where

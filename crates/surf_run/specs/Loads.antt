@@ -22,6 +22,7 @@ use Rattle.surf_run.specs.Kind.{Kind}
 use Rattle.surf_run.specs.Open.{OpenMoves}
 use Rattle.surf_run.specs.Unserved.{LastLine}
 use Rattle.table_model.specs.Tables.{FilterBytes}
+use Rattle.surf_run.specs.Statuses.{done_status, device_status, damaged_status, output_status, memory_status}
 
 -- ---- one step
 
@@ -77,7 +78,7 @@ HasFirstSteps kind start kept image = (first : List Entry) × (later : List Entr
 -- step, as the last line of this status tells, the one of that step's answer.
 abbrev pub CrashOfLoad : Kind → State → ℕ → ℕ → ℕ → List Entry → State → ℕ → Image → Type 0
 CrashOfLoad kind start seed count made kept now meant image =
-    HasFirstSteps kind start kept image ⊎ ((meant ≡ 4) × (made < count) × HasMap kind (answer kind.filter_bytes now (change_of (step_behind seed made))).1 image)
+    HasFirstSteps kind start kept image ⊎ ((meant ≡ device_status) × (made < count) × HasMap kind (answer kind.filter_bytes now (change_of (step_behind seed made))).1 image)
 
 -- The first n steps were made of a state: these were kept, so many others refused, and this state stands behind them, whose map is the
 -- one that the kept ones make.
@@ -107,9 +108,9 @@ FailsBehind kind seed count made now old new text =
 -- the state behind them: so the next run begins with it.
 abbrev pub IsLoadText : Kind → ℕ → ℕ → ℕ → ℕ → State → World → World → ℕ → Bytes → Type 0
 IsLoadText kind seed count made refused now old new status text =
-    ((status ≡ 0) × (made ≡ count) × EachImageStandsFor kind now new × (text ≡ summary_text count refused (summary_of (state_map now))))
-    ⊎ ((status ≡ 7) × EachImageStandsFor kind now new × (text ≡ text_of Memory))
-    ⊎ ((status ≡ 4) × FailsBehind kind seed count made now old new text)
+    ((status ≡ done_status) × (made ≡ count) × EachImageStandsFor kind now new × (text ≡ summary_text count refused (summary_of (state_map now))))
+    ⊎ ((status ≡ memory_status) × EachImageStandsFor kind now new × (text ≡ text_of Memory))
+    ⊎ ((status ≡ device_status) × FailsBehind kind seed count made now old new text)
 
 -- A load of so many steps from a state: the steps that were made, one history; its last line, and that nothing is taken; at each
 -- moment a crash leaves the map after some first of them; and nothing is written behind the pages of the store.
@@ -127,7 +128,7 @@ pub record LoadEnds (kind : Kind) (status : ℕ) (start : State) (seed count : �
 
 -- the statuses of a run of it that was begun
 abbrev pub IsLoading : ℕ → Type 0
-IsLoading status = (status ≡ 0) ⊎ (status ≡ 4) ⊎ (status ≡ 5) ⊎ (status ≡ 6) ⊎ (status ≡ 7)
+IsLoading status = (status ≡ done_status) ⊎ (status ≡ device_status) ⊎ (status ≡ damaged_status) ⊎ (status ≡ output_status) ⊎ (status ≡ memory_status)
 
 -- The store was opened, with nothing written, taken or said by then; and steps were made from this state on.
 pub record Loads (kind : Kind) (status : ℕ) (start : State) (seed count : ℕ) (old opened new : World) : Type 0 where

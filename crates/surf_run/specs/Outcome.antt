@@ -21,6 +21,7 @@ use Rattle.surf_run.specs.Dialogue.{AnsweredLines, AreBounded, line_bound}
 use Rattle.surf_run.specs.Holding.{with_newline}
 use Rattle.surf_run.specs.Kind.{Kind}
 use Rattle.surf_run.specs.OneMap.{MapDialogue}
+use Rattle.surf_run.specs.Statuses.{done_status, input_status, device_status, output_status, limit_status}
 
 -- All of the script's text was said, for the lines of what was taken; and the input was at its end, or whatever follows
 -- changes nothing. As each reply had been said that is not `device`, each image that a crash may then leave stood for the
@@ -129,12 +130,12 @@ pub record OutputFailed (kind : Kind) (start : State) (base : ℕ) (taken : Byte
 pub record EndOfServe (kind : Kind) (status : ℕ) (start : State) (base : ℕ) (taken : Bytes) (old new : World) : Type 0 where
   pub serving : IsServing status
   pub ended :
-      status ≡ 0
+      status ≡ done_status
       → (SaidWholeScript kind ToLast start taken old new × LeavesState kind start base (lines_of taken) old new × (length taken < max_input_bytes))
       ⊎ (SaidWholeScript kind AtQuit start taken old new × LastReplyTo kind piece_bytes AtQuit Bye start base taken old new)
-  pub device : status ≡ 4 → SaidWholeScript kind AtDevice start taken old new × EndsAtDevice kind piece_bytes start base taken old new
-  pub cut : (status ≡ 3) ⊎ (status ≡ 9) → InputCutOff kind start base taken old new
-  pub output : status ≡ 6 → OutputFailed kind start base taken old new
+  pub device : status ≡ device_status → SaidWholeScript kind AtDevice start taken old new × EndsAtDevice kind piece_bytes start base taken old new
+  pub cut : (status ≡ input_status) ⊎ (status ≡ limit_status) → InputCutOff kind start base taken old new
+  pub output : status ≡ output_status → OutputFailed kind start base taken old new
   pub said : (text : Bytes) × (new.beside.said ≡ old.beside.said ++ text)
   pub crash : During (KeepsAcknowledged (HasCause old new) kind start (lines_of taken) old.beside.said new.beside.said) old new
   pub writes : WritesWithin (page_bytes * start.pages) old new
@@ -144,5 +145,5 @@ pub record Outcome (kind : Kind) (status : ℕ) (start : State) (base : ℕ) (ol
   pub taken : Bytes
   pub input : old.beside.to_take ≡ taken ++ new.beside.to_take
   pub settled : EndOfServe kind status start base taken old new
-  pub limit : status ≡ 9 → length taken ≡ max_input_bytes
+  pub limit : status ≡ limit_status → length taken ≡ max_input_bytes
   pub most : length taken ≤ max_input_bytes

@@ -4,14 +4,15 @@ use Rattle.store_core.specs.declared.error.StoreError.{StoreError}
 use Rattle.store_core.specs.declared.error.StoreError.TheVariants as error
 use Rattle.surf_run.specs.declared.line_end.LineEnd.{LineEnd}
 use Rattle.surf_run.specs.declared.line_end.LineEnd.TheVariants.{End, Next}
+use Rattle.surf_run.specs.Statuses.{device_status, damaged_status}
 
 abbrev pub end_of_refusal : StoreError → LineEnd
 end_of_refusal error.Memory = Next
-end_of_refusal (error.Device cause) = End 4
+end_of_refusal (error.Device cause) = End device_status
 end_of_refusal error.Stopped = Next
 end_of_refusal (error.Limit limit) = Next
 end_of_refusal (error.Full need gap) = Next
-end_of_refusal (error.Damaged damage) = End 5
+end_of_refusal (error.Damaged damage) = End damaged_status
 end_of_refusal error.NotAStore = Next
 end_of_refusal error.AlreadyAStore = Next
 end_of_refusal (error.BadSettings field) = Next

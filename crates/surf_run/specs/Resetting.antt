@@ -28,6 +28,7 @@ use Rattle.surf_run.specs.Open.{OpenMoves, no_store_text}
 use Rattle.surf_run.specs.Unserved.{LastLine, Untouched}
 use Rattle.surf_run.specs.declared.new_numbers.NewNumbers.{NewNumbers}
 use Rattle.surf_run.specs.declared.new_numbers.NewNumbers.TheVariants as new
+use Rattle.surf_run.specs.Statuses.{done_status, device_status, damaged_status, output_status, memory_status, store_status, last_epoch_status}
 
 -- ---- the numbers
 
@@ -69,11 +70,11 @@ done_text (new.Pages pages) = grown_text pages
 -- out of range for it; for want of memory; where a call of the device failed. In the second, third and fourth case nothing was written.
 abbrev pub IsResetText : Kind → NewNumbers → State → World → World → ℕ → Bytes → Type 0
 IsResetText kind numbers s old new status text =
-    ((status ≡ 0) × (bad_number numbers s.pages ≡ None) × (to : State) × (renumbered numbers s ≡ Ok to) × EachImageStandsFor kind to new × (text ≡ done_text numbers))
-    ⊎ ((status ≡ 10) × (bad_number numbers s.pages ≡ None) × (renumbered numbers s ≡ Err LastEpoch) × Untouched old new × (text ≡ text_of LastEpoch))
-    ⊎ ((status ≡ 8) × (field : Field) × (bad_number numbers s.pages ≡ Some field) × Untouched old new × (text ≡ bad_settings_text field))
-    ⊎ ((status ≡ 7) × Untouched old new × (text ≡ text_of Memory))
-    ⊎ ((status ≡ 4) × DiskFailed old new × (text ≡ text_of Device))
+    ((status ≡ done_status) × (bad_number numbers s.pages ≡ None) × (to : State) × (renumbered numbers s ≡ Ok to) × EachImageStandsFor kind to new × (text ≡ done_text numbers))
+    ⊎ ((status ≡ last_epoch_status) × (bad_number numbers s.pages ≡ None) × (renumbered numbers s ≡ Err LastEpoch) × Untouched old new × (text ≡ text_of LastEpoch))
+    ⊎ ((status ≡ store_status) × (field : Field) × (bad_number numbers s.pages ≡ Some field) × Untouched old new × (text ≡ bad_settings_text field))
+    ⊎ ((status ≡ memory_status) × Untouched old new × (text ≡ text_of Memory))
+    ⊎ ((status ≡ device_status) × DiskFailed old new × (text ≡ text_of Device))
 
 -- the image stands for the state before or for the one with the new numbers, and not for its map alone
 abbrev pub HasOldOrNewNumbers : Kind → NewNumbers → State → Image → Type 0
@@ -94,11 +95,11 @@ pub record OpenedThenReset (kind : Kind) (numbers : NewNumbers) (status : ℕ) (
 
 -- the statuses of a run of it
 abbrev pub IsResetting : ℕ → Type 0
-IsResetting status = (status ≡ 0) ⊎ (status ≡ 4) ⊎ (status ≡ 5) ⊎ (status ≡ 6) ⊎ (status ≡ 7) ⊎ (status ≡ 8) ⊎ (status ≡ 10)
+IsResetting status = (status ≡ done_status) ⊎ (status ≡ device_status) ⊎ (status ≡ damaged_status) ⊎ (status ≡ output_status) ⊎ (status ≡ memory_status) ⊎ (status ≡ store_status) ⊎ (status ≡ last_epoch_status)
 
 -- where no call fails
 abbrev pub IsResetEnd : ℕ → Type 0
-IsResetEnd status = (status ≡ 0) ⊎ (status ≡ 7) ⊎ (status ≡ 8) ⊎ (status ≡ 10)
+IsResetEnd status = (status ≡ done_status) ⊎ (status ≡ memory_status) ⊎ (status ≡ store_status) ⊎ (status ≡ last_epoch_status)
 
 -- ---- status 8, whatever stands on the device
 
@@ -131,11 +132,11 @@ IsOfReset error.AlreadyAStore = ⊥
 IsOfReset (error.BadSettings field) = Unit {0}
 
 abbrev pub reset_status : StoreError → ℕ
-reset_status error.Memory = 7
-reset_status (error.Device cause) = 4
-reset_status (error.Limit limit) = 10
-reset_status (error.BadSettings field) = 8
-reset_status other = 0
+reset_status error.Memory = memory_status
+reset_status (error.Device cause) = device_status
+reset_status (error.Limit limit) = last_epoch_status
+reset_status (error.BadSettings field) = store_status
+reset_status other = done_status
 
 abbrev pub refusal_text : StoreError → Bytes
 refusal_text error.Memory = text_of Memory

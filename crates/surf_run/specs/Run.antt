@@ -16,24 +16,25 @@ use Rattle.surf_run.specs.Resetting.{AreInRange}
 use Rattle.surf_run.specs.Unserved.{Unserved}
 use Rattle.surf_run.specs.declared.new_numbers.NewNumbers.{NewNumbers}
 use Rattle.surf_run.specs.declared.new_numbers.NewNumbers.TheVariants as new
+use Rattle.surf_run.specs.Statuses.{done_status, wrong_words_status, memory_status, store_status}
 
 -- the line that wrong words get
 abbrev pub usage_text : Bytes
-usage_text = codes "usage: surfstore PATH format|serve|load|settings|grow" ++ 10 ∷ []
+usage_text = codes "usage: surfstore PATH format|serve|load|settings|grow|check" ++ 10 ∷ []
 
 -- there was no memory to find out what the words ask for
 abbrev pub IsMemoryText : ℕ → Bytes → Type 0
-IsMemoryText status text = (status ≡ 7) × (text ≡ text_of Memory)
+IsMemoryText status text = (status ≡ memory_status) × (text ≡ text_of Memory)
 
 abbrev pub IsUsageText : ℕ → Bytes → Type 0
-IsUsageText status text = ((status ≡ 2) × (text ≡ usage_text)) ⊎ IsMemoryText status text
+IsUsageText status text = ((status ≡ wrong_words_status) × (text ≡ usage_text)) ⊎ IsMemoryText status text
 
 abbrev pub IsBadSettingsText : Field → ℕ → Bytes → Type 0
-IsBadSettingsText field status text = ((status ≡ 8) × (text ≡ bad_settings_text field)) ⊎ IsMemoryText status text
+IsBadSettingsText field status text = ((status ≡ store_status) × (text ≡ bad_settings_text field)) ⊎ IsMemoryText status text
 
 -- help, or the version: a text of clap's
 abbrev pub IsHelpText : ℕ → Bytes → Type 0
-IsHelpText status text = (status ≡ 0) ⊎ IsMemoryText status text
+IsHelpText status text = (status ≡ done_status) ⊎ IsMemoryText status text
 
 -- The store was made or refused, with nothing taken and nothing written behind the first log area's first gate; or there was no
 -- memory to find out which one is wanted.
@@ -46,155 +47,112 @@ FormatEnds spelling store status old new =
 abbrev pub AskNothing : List Text → Type 0
 AskNothing words = AreRefusedWords words ⊎ IsHelp words ⊎ ((field : Field) × HasBadNumber words field)
 
+-- ---- case by case
+
+-- What holds in each case of what words ask for, and where there was no memory to find that out.
+pub record Cases : Type 1 where
+  pub serve : Type 0
+  pub load : Load → Type 0
+  pub reset : NewNumbers → Type 0
+  pub check : Type 0
+  pub format : NewStore → Type 0
+  pub bad_settings : Field → Type 0
+  pub help : Type 0
+  pub refused : Type 0
+  pub memory : Type 0
+
+-- what holds in this case
+abbrev pub In : Asked → Cases → Type 0
+In asked.Serve cases = cases.serve
+In (asked.Load load) cases = cases.load load
+In (asked.Settings settings) cases = cases.reset (new.Settings settings)
+In (asked.Grow pages) cases = cases.reset (new.Pages pages)
+In asked.Check cases = cases.check
+In (asked.Format store) cases = cases.format store
+In (asked.BadSettings field) cases = cases.bad_settings field
+In (asked.Help text) cases = cases.help
+In asked.Refused cases = cases.refused
+In asked.Memory cases = cases.memory
+
+-- the same in each case
+abbrev pub always : Type 0 → Cases
+always Holds = record {
+  serve = Holds;
+  load = λ _. Holds;
+  reset = λ _. Holds;
+  check = Holds;
+  format = λ _. Holds;
+  bad_settings = λ _. Holds;
+  help = Holds;
+  refused = Holds;
+  memory = Holds;
+}
+
+-- nothing is said of any case
+abbrev pub nothing : Cases
+nothing = always (Unit {0})
+
+-- no case is so
+abbrev pub never : Cases
+never = always ⊥
+
 -- ---- what is so where this was asked for, or there was no memory
 
 abbrev pub IfServe : Asked → Type 0 → Type 0
-IfServe asked.Serve Holds = Holds
-IfServe (asked.Load load) Holds = Unit {0}
-IfServe (asked.Settings settings) Holds = Unit {0}
-IfServe (asked.Grow pages) Holds = Unit {0}
-IfServe asked.Memory Holds = Holds
-IfServe (asked.Format store) Holds = Unit {0}
-IfServe (asked.BadSettings field) Holds = Unit {0}
-IfServe (asked.Help text) Holds = Unit {0}
-IfServe asked.Refused Holds = Unit {0}
+IfServe asked Holds = In asked (record nothing { serve = Holds; memory = Holds })
 
 abbrev pub IfRefused : Asked → Type 0 → Type 0
-IfRefused asked.Serve Holds = Unit {0}
-IfRefused (asked.Load load) Holds = Unit {0}
-IfRefused (asked.Settings settings) Holds = Unit {0}
-IfRefused (asked.Grow pages) Holds = Unit {0}
-IfRefused asked.Memory Holds = Holds
-IfRefused (asked.Format store) Holds = Unit {0}
-IfRefused (asked.BadSettings field) Holds = Unit {0}
-IfRefused (asked.Help text) Holds = Unit {0}
-IfRefused asked.Refused Holds = Holds
+IfRefused asked Holds = In asked (record nothing { refused = Holds; memory = Holds })
 
 abbrev pub IfUnserved : Asked → Type 0 → Type 0
-IfUnserved asked.Serve Holds = Unit {0}
-IfUnserved (asked.Load load) Holds = Unit {0}
-IfUnserved (asked.Settings settings) Holds = Unit {0}
-IfUnserved (asked.Grow pages) Holds = Unit {0}
-IfUnserved asked.Memory Holds = Holds
-IfUnserved (asked.Format store) Holds = Unit {0}
-IfUnserved (asked.BadSettings field) Holds = Holds
-IfUnserved (asked.Help text) Holds = Holds
-IfUnserved asked.Refused Holds = Holds
+IfUnserved asked Holds = In asked (record nothing { bad_settings = λ _. Holds; help = Holds; refused = Holds; memory = Holds })
 
 abbrev pub IfHelp : Asked → Type 0 → Type 0
-IfHelp asked.Serve Holds = Unit {0}
-IfHelp (asked.Load load) Holds = Unit {0}
-IfHelp (asked.Settings settings) Holds = Unit {0}
-IfHelp (asked.Grow pages) Holds = Unit {0}
-IfHelp asked.Memory Holds = Holds
-IfHelp (asked.Format store) Holds = Unit {0}
-IfHelp (asked.BadSettings field) Holds = Unit {0}
-IfHelp (asked.Help text) Holds = Holds
-IfHelp asked.Refused Holds = Unit {0}
+IfHelp asked Holds = In asked (record nothing { help = Holds; memory = Holds })
 
 abbrev pub IfFormat : Asked → (NewStore → Type 0) → Type 0 → Type 0
-IfFormat asked.Serve Holds Starved = Unit {0}
-IfFormat (asked.Load load) Holds Starved = Unit {0}
-IfFormat (asked.Settings settings) Holds Starved = Unit {0}
-IfFormat (asked.Grow pages) Holds Starved = Unit {0}
-IfFormat asked.Memory Holds Starved = Starved
-IfFormat (asked.Format store) Holds Starved = Holds store
-IfFormat (asked.BadSettings field) Holds Starved = Unit {0}
-IfFormat (asked.Help text) Holds Starved = Unit {0}
-IfFormat asked.Refused Holds Starved = Unit {0}
+IfFormat asked Holds Starved = In asked (record nothing { format = Holds; memory = Starved })
 
 abbrev pub IfBadSettings : Asked → (Field → Type 0) → Type 0 → Type 0
-IfBadSettings asked.Serve Holds Starved = Unit {0}
-IfBadSettings (asked.Load load) Holds Starved = Unit {0}
-IfBadSettings (asked.Settings settings) Holds Starved = Unit {0}
-IfBadSettings (asked.Grow pages) Holds Starved = Unit {0}
-IfBadSettings asked.Memory Holds Starved = Starved
-IfBadSettings (asked.Format store) Holds Starved = Unit {0}
-IfBadSettings (asked.BadSettings field) Holds Starved = Holds field
-IfBadSettings (asked.Help text) Holds Starved = Unit {0}
-IfBadSettings asked.Refused Holds Starved = Unit {0}
+IfBadSettings asked Holds Starved = In asked (record nothing { bad_settings = Holds; memory = Starved })
 
 abbrev pub IfLoad : Asked → (Load → Type 0) → Type 0 → Type 0
-IfLoad asked.Serve Holds Starved = Unit {0}
-IfLoad (asked.Load load) Holds Starved = Holds load
-IfLoad (asked.Settings settings) Holds Starved = Unit {0}
-IfLoad (asked.Grow pages) Holds Starved = Unit {0}
-IfLoad asked.Memory Holds Starved = Starved
-IfLoad (asked.Format store) Holds Starved = Unit {0}
-IfLoad (asked.BadSettings field) Holds Starved = Unit {0}
-IfLoad (asked.Help text) Holds Starved = Unit {0}
-IfLoad asked.Refused Holds Starved = Unit {0}
+IfLoad asked Holds Starved = In asked (record nothing { load = Holds; memory = Starved })
 
 -- where the store was to be opened
 abbrev pub IfOpens : Asked → Type 0 → Type 0
-IfOpens asked.Serve Holds = Holds
-IfOpens (asked.Load load) Holds = Holds
-IfOpens (asked.Settings settings) Holds = Holds
-IfOpens (asked.Grow pages) Holds = Holds
-IfOpens asked.Memory Holds = Holds
-IfOpens (asked.Format store) Holds = Unit {0}
-IfOpens (asked.BadSettings field) Holds = Unit {0}
-IfOpens (asked.Help text) Holds = Unit {0}
-IfOpens asked.Refused Holds = Unit {0}
+IfOpens asked Holds = In asked (record nothing { serve = Holds; load = λ _. Holds; reset = λ _. Holds; memory = Holds })
+
+-- where these numbers are settings
+abbrev pub IfSettings : NewNumbers → Type 0 → Type 0
+IfSettings (new.Settings settings) Holds = Holds
+IfSettings (new.Pages pages) Holds = Unit {0}
 
 -- where it was to be opened with numbers that are in range for each store
 abbrev pub IfOpensWithoutGrowing : Asked → Type 0 → Type 0
-IfOpensWithoutGrowing asked.Serve Holds = Holds
-IfOpensWithoutGrowing (asked.Load load) Holds = Holds
-IfOpensWithoutGrowing (asked.Settings settings) Holds = Holds
-IfOpensWithoutGrowing (asked.Grow pages) Holds = Unit {0}
-IfOpensWithoutGrowing asked.Memory Holds = Holds
-IfOpensWithoutGrowing (asked.Format store) Holds = Unit {0}
-IfOpensWithoutGrowing (asked.BadSettings field) Holds = Unit {0}
-IfOpensWithoutGrowing (asked.Help text) Holds = Unit {0}
-IfOpensWithoutGrowing asked.Refused Holds = Unit {0}
+IfOpensWithoutGrowing asked Holds = In asked (record nothing { serve = Holds; load = λ _. Holds; reset = λ numbers. IfSettings numbers Holds; memory = Holds })
 
 -- where it was to get new numbers
 abbrev pub IfReset : Asked → (NewNumbers → Type 0) → Type 0 → Type 0
-IfReset asked.Serve Holds Starved = Unit {0}
-IfReset (asked.Load load) Holds Starved = Unit {0}
-IfReset (asked.Settings settings) Holds Starved = Holds (new.Settings settings)
-IfReset (asked.Grow pages) Holds Starved = Holds (new.Pages pages)
-IfReset asked.Memory Holds Starved = Starved
-IfReset (asked.Format store) Holds Starved = Unit {0}
-IfReset (asked.BadSettings field) Holds Starved = Unit {0}
-IfReset (asked.Help text) Holds Starved = Unit {0}
-IfReset asked.Refused Holds Starved = Unit {0}
+IfReset asked Holds Starved = In asked (record nothing { reset = Holds; memory = Starved })
+
+-- where it was to be checked
+abbrev pub IfCheck : Asked → Type 0 → Type 0
+IfCheck asked Holds = In asked (record nothing { check = Holds; memory = Holds })
 
 -- ---- this was asked for, and nothing else
 
 abbrev pub IsLoadAsk : Asked → Type 0
-IsLoadAsk asked.Serve = ⊥
-IsLoadAsk (asked.Load load) = Unit {0}
-IsLoadAsk (asked.Settings settings) = ⊥
-IsLoadAsk (asked.Grow pages) = ⊥
-IsLoadAsk asked.Memory = ⊥
-IsLoadAsk (asked.Format store) = ⊥
-IsLoadAsk (asked.BadSettings field) = ⊥
-IsLoadAsk (asked.Help text) = ⊥
-IsLoadAsk asked.Refused = ⊥
+IsLoadAsk asked = In asked (record never { load = λ _. Unit {0} })
 
 abbrev pub IsResetAsk : Asked → Type 0
-IsResetAsk asked.Serve = ⊥
-IsResetAsk (asked.Load load) = ⊥
-IsResetAsk (asked.Settings settings) = Unit {0}
-IsResetAsk (asked.Grow pages) = Unit {0}
-IsResetAsk asked.Memory = ⊥
-IsResetAsk (asked.Format store) = ⊥
-IsResetAsk (asked.BadSettings field) = ⊥
-IsResetAsk (asked.Help text) = ⊥
-IsResetAsk asked.Refused = ⊥
+IsResetAsk asked = In asked (record never { reset = λ _. Unit {0} })
+
+abbrev pub IsCheckAsk : Asked → Type 0
+IsCheckAsk asked = In asked (record never { check = Unit {0} })
 
 abbrev pub IsRefusedAsk : Asked → Type 0
-IsRefusedAsk asked.Serve = ⊥
-IsRefusedAsk (asked.Load load) = ⊥
-IsRefusedAsk (asked.Settings settings) = ⊥
-IsRefusedAsk (asked.Grow pages) = ⊥
-IsRefusedAsk asked.Memory = ⊥
-IsRefusedAsk (asked.Format store) = ⊥
-IsRefusedAsk (asked.BadSettings field) = ⊥
-IsRefusedAsk (asked.Help text) = ⊥
-IsRefusedAsk asked.Refused = Unit {0}
+IsRefusedAsk asked = In asked (record never { refused = Unit {0} })
 
 -- ---- what asking promises
 

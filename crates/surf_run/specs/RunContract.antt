@@ -13,7 +13,7 @@ use Rattle.manifest_model.specs.Slots.{IsNoStore, IsVersionOf}
 use Rattle.manifest_model.specs.Version.{Version}
 use Rattle.map_model.specs.SortedMap.{Bytes}
 use Rattle.outside.specs.Streams.{SayMoves}
-use Rattle.program_words.specs.Asked.{AreRefusedWords, HasBadNumber, IsFormat, IsGrow, IsHelp, IsLoadInRange, IsServe, OpensStore, OpensWithoutGrowing}
+use Rattle.program_words.specs.Asked.{AreRefusedWords, HasBadNumber, IsCheck, IsFormat, IsGrow, IsHelp, IsLoadInRange, IsServe, OpensStore, OpensWithoutGrowing}
 use Rattle.program_words.specs.NewStores.{IsStoreOf, first_bad_word}
 use Rattle.program_words.specs.declared.load.Load.{Load}
 use Rattle.program_words.specs.declared.new_store.NewStore.{NewStore}
@@ -21,17 +21,19 @@ use Rattle.program_words.specs.declared.new_store.Wanted.{Wanted}
 use Rattle.state_model.specs.State.{State}
 use Rattle.state_model.specs.View.{state_map}
 use Rattle.surf_run.specs.Causes.{EndsAt, IsServing, NoFall, RunMeetsDamage, StatusCause, WritesWithin}
-use Rattle.surf_run.specs.ServedOrNot.{Completed, HasNoState, NoLineAnswered, OpenedThenServed, OpensNothing, ServedOrNot, SomeFailed, TellsDamage}
+use Rattle.surf_run.specs.Checks.{CheckEnds}
+use Rattle.surf_run.specs.ServedOrNot.{Completed, HasNoState, NoLineAnswered, OpenedThenServed, ServedOrNot, SomeFailed, TellsDamage}
 use Rattle.surf_run.specs.Kind.{Kind}
 use Rattle.surf_run.specs.Loads.{IsLoading, LoadEnds, Loads}
 use Rattle.surf_run.specs.MapCrash.{OneMapLasts}
-use Rattle.surf_run.specs.Open.{IsOpeningText}
+use Rattle.surf_run.specs.Open.{IsOpeningText, OpensNothing}
 use Rattle.surf_run.specs.Resetting.{AskFor, IsInLastEpoch, IsResetEnd, IsResetting, OpenedThenReset, ResetEnds, TellsWhich}
 use Rattle.surf_run.specs.Run.{AskNothing, FormatEnds, IsBadSettingsText, IsHelpText, IsUsageText}
 use Rattle.table_file.specs.Faults.{filter_fault_of}
 use Rattle.surf_run.specs.Unserved.{Unserved}
 use Rattle.surf_run.specs.declared.new_numbers.NewNumbers.{NewNumbers}
 use Rattle.surf_run.specs.declared.new_numbers.NewNumbers.TheVariants as new_numbers
+use Rattle.surf_run.specs.Statuses.{done_status, wrong_words_status, device_status, damaged_status, output_status, memory_status, store_status, last_epoch_status, findings_status}
 
 -- A run by these words over a device and streams, with filters of this kind, of which bytes that are no filter break this rule
 -- first. Whether device, input and output tell their bytes is `tells`, `tells_input` and `tells_output`, and `world` is what
@@ -57,7 +59,7 @@ pub record RunContract {X : Type 0} (world : X → World) (tells tells_input tel
       (s : State) → IsTrue tells → IsTrue tells_input → IsTrue tells_output → IsStateOf kind.spelling s (world old).seen.held
       → (SomeFailed (world old) (world new) → ⊥) → IsServe words → Completed status (world old) (world new)
   -- For want of memory, and where no store stands, no byte of the input was taken.
-  pub early : IsServe words → (status ≡ 7) ⊎ (status ≡ 8) → (world new).beside.to_take ≡ (world old).beside.to_take
+  pub early : IsServe words → (status ≡ memory_status) ⊎ (status ≡ store_status) → (world new).beside.to_take ≡ (world old).beside.to_take
   -- A new store is made or refused, and says so; a number out of range is named, and nothing is touched.
   pub formatted :
       (wanted : Wanted) (store : NewStore) → IsTrue tells → IsTrue tells_output → IsFormat words wanted → first_bad_word wanted ≡ None → IsStoreOf wanted store
@@ -65,7 +67,7 @@ pub record RunContract {X : Type 0} (world : X → World) (tells tells_input tel
   -- Where no call fails it is made, or a store is there, or there was no memory.
   pub format_complete :
       (wanted : Wanted) (store : NewStore) → IsTrue tells → IsTrue tells_output → IsFormat words wanted → first_bad_word wanted ≡ None → IsStoreOf wanted store
-      → (SomeFailed (world old) (world new) → ⊥) → (status ≡ 0) ⊎ (status ≡ 7) ⊎ ((status ≡ 8) × (has_open (world old).seen.held ≡ true))
+      → (SomeFailed (world old) (world new) → ⊥) → (status ≡ done_status) ⊎ (status ≡ memory_status) ⊎ ((status ≡ store_status) × (has_open (world old).seen.held ≡ true))
   pub bad_settings : (field : Field) → IsTrue tells_output → HasBadNumber words field → Unserved (IsBadSettingsText field) status (world old) (world new)
   -- Of `load`, where each image that a crash might have left at the start stands for this state: at status 0 all steps were made, and
   -- the line tells the map of those that were not refused; what a crash may leave at each moment is the map after some first steps.
@@ -79,9 +81,9 @@ pub record RunContract {X : Type 0} (world : X → World) (tells tells_input tel
   -- Where no call fails all steps are made, but for want of memory.
   pub load_complete :
       (s : State) (load : Load) → IsTrue tells → IsTrue tells_output → IsStateOf kind.spelling s (world old).seen.held
-      → (SomeFailed (world old) (world new) → ⊥) → IsLoadInRange words load → (status ≡ 0) ⊎ (status ≡ 7)
+      → (SomeFailed (world old) (world new) → ⊥) → IsLoadInRange words load → (status ≡ done_status) ⊎ (status ≡ memory_status)
   -- And whatever stands there, no other comes than these.
-  pub load_statuses : (load : Load) → IsLoadInRange words load → IsLoading status ⊎ (status ≡ 8)
+  pub load_statuses : (load : Load) → IsLoadInRange words load → IsLoading status ⊎ (status ≡ store_status)
   -- Of `settings` and `grow`, where each image that a crash might have left at the start stands for this state: at status 0 each one
   -- stands for the state with the new numbers, 10 comes at its last epoch, and what a crash may leave at each moment is the state
   -- before or that one.
@@ -100,11 +102,11 @@ pub record RunContract {X : Type 0} (world : X → World) (tells tells_input tel
   pub reset_statuses : (numbers : NewNumbers) → AskFor words numbers → IsResetting status
   -- Status 5 comes of them only where opening finds damage, and says the first.
   pub reset_at_damage :
-      (numbers : NewNumbers) → IsTrue tells → IsTrue tells_output → AskFor words numbers → status ≡ 5
+      (numbers : NewNumbers) → IsTrue tells → IsTrue tells_output → AskFor words numbers → status ≡ damaged_status
       → TellsDamage kind.spelling first_fault (world old).seen.held (world old) (world new)
   -- Status 10 comes of nothing else, and only of a store in its last epoch.
-  pub only_at_new_numbers : status ≡ 10 → (numbers : NewNumbers) × AskFor words numbers
-  pub only_at_last_epoch : IsTrue tells → status ≡ 10 → IsInLastEpoch (world old).seen.held
+  pub only_at_new_numbers : status ≡ last_epoch_status → (numbers : NewNumbers) × AskFor words numbers
+  pub only_at_last_epoch : IsTrue tells → status ≡ last_epoch_status → IsInLastEpoch (world old).seen.held
   -- Help is said with 0, and wrong words get the usage line with 2; nothing is touched.
   pub helped : IsTrue tells_output → IsHelp words → Unserved IsHelpText status (world old) (world new)
   pub refused : IsTrue tells_output → AreRefusedWords words → Unserved IsUsageText status (world old) (world new)
@@ -112,17 +114,17 @@ pub record RunContract {X : Type 0} (world : X → World) (tells tells_input tel
   pub causes : StatusCause status (world old) (world new)
   pub counts : NoFall (world old) (world new)
   -- Status 2 comes exactly where clap refuses the words, but for memory and a last line that cannot be said.
-  pub only_at_wrong_words : status ≡ 2 → AreRefusedWords words
-  pub told_of_wrong_words : AreRefusedWords words → EndsAt 2 status (world old) (world new)
+  pub only_at_wrong_words : status ≡ wrong_words_status → AreRefusedWords words
+  pub told_of_wrong_words : AreRefusedWords words → EndsAt wrong_words_status status (world old) (world new)
   -- Numbers out of range end with 8 and help with 0, whether or not the output tells its bytes.
-  pub told_of_bad_settings : (field : Field) → HasBadNumber words field → EndsAt 8 status (world old) (world new)
-  pub told_of_help : IsHelp words → EndsAt 0 status (world old) (world new)
+  pub told_of_bad_settings : (field : Field) → HasBadNumber words field → EndsAt store_status status (world old) (world new)
+  pub told_of_help : IsHelp words → EndsAt done_status status (world old) (world new)
   -- Words that are refused or answered, and numbers out of range: nothing is called but the output.
   pub untouched : AskNothing words → SayMoves (world old) (world new)
   -- Status 5 comes only where opening finds damage, and says the first, or where no state stands and a block that was read shows
   -- the damage that was said, or that a merge slice met, of which nothing is said.
   pub only_at_damage :
-      IsTrue tells → IsTrue tells_input → IsTrue tells_output → status ≡ 5
+      IsTrue tells → IsTrue tells_input → IsTrue tells_output → status ≡ damaged_status
       → TellsDamage kind.spelling first_fault (world old).seen.held (world old) (world new) ⊎ (HasNoState kind.spelling (world old).seen.held × RunMeetsDamage ((load : Load) × IsLoadInRange words load) (world old) (world new))
   -- Of all but `format`, where no store stands or opening finds damage, no line is served, no step made and no number set: nothing is
   -- taken or written, and the one last line says so, or `device` or `memory`.
@@ -135,10 +137,14 @@ pub record RunContract {X : Type 0} (world : X → World) (tells tells_input tel
   -- Where opening finds damage, the status says so, but for the device, memory and a last line that cannot be said.
   pub told_of_damage :
       (d : Damage) → IsTrue tells → FirstDamage kind.spelling (filter_fault_of first_fault) (world old).seen.held d → OpensStore words
-      → (status ≡ 5) ⊎ (status ≡ 4) ⊎ (status ≡ 6) ⊎ (status ≡ 7)
+      → (status ≡ damaged_status) ⊎ (status ≡ device_status) ⊎ (status ≡ output_status) ⊎ (status ≡ memory_status)
   -- Of them, status 8 comes exactly where both slot gates are closed, but for memory, the device and the last line. Of `grow` it comes
   -- too where the pages are fewer than the store has, or too many, and the line says which.
-  pub only_at_no_store : IsTrue tells → status ≡ 8 → OpensWithoutGrowing words → IsNoStore (world old).seen.held
-  pub only_at_bad_pages : (pages : ℕ) → IsTrue tells → status ≡ 8 → IsGrow words pages → TellsWhich (IsTrue tells_output) (new_numbers.Pages pages) (world old).seen.held (world old) (world new)
-  pub told_of_no_store : IsTrue tells → IsNoStore (world old).seen.held → OpensStore words → (status ≡ 8) ⊎ (status ≡ 4) ⊎ (status ≡ 6) ⊎ (status ≡ 7)
-  pub statuses : IsServing status ⊎ (status ≡ 2) ⊎ (status ≡ 5) ⊎ (status ≡ 7) ⊎ (status ≡ 8) ⊎ (status ≡ 10)
+  pub only_at_no_store : IsTrue tells → status ≡ store_status → OpensWithoutGrowing words → IsNoStore (world old).seen.held
+  pub only_at_bad_pages : (pages : ℕ) → IsTrue tells → status ≡ store_status → IsGrow words pages → TellsWhich (IsTrue tells_output) (new_numbers.Pages pages) (world old).seen.held (world old) (world new)
+  pub told_of_no_store : IsTrue tells → IsNoStore (world old).seen.held → OpensStore words → (status ≡ store_status) ⊎ (status ≡ device_status) ⊎ (status ≡ output_status) ⊎ (status ≡ memory_status)
+  -- Of `check`: all that is wrong with what the device holds, in order, and how many things are, or what the store has; and it
+  -- changes nothing.
+  pub check : IsCheck words → CheckEnds kind.spelling first_fault tells tells_output status (world old) (world new)
+  pub only_at_check : status ≡ findings_status → IsCheck words
+  pub statuses : IsServing status ⊎ (status ≡ wrong_words_status) ⊎ (status ≡ damaged_status) ⊎ (status ≡ memory_status) ⊎ (status ≡ store_status) ⊎ (status ≡ last_epoch_status) ⊎ (status ≡ findings_status)

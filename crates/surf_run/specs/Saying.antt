@@ -11,6 +11,7 @@ use Rattle.store_commands.specs.declared.reply.Reply.{Reply as Spoken}
 use Rattle.store_commands.specs.declared.reply.Reply.TheVariants as spoken
 use Rattle.surf_run.specs.declared.line_end.LineEnd.{LineEnd}
 use Rattle.surf_run.specs.declared.line_end.LineEnd.TheVariants.{End, Next, Quit}
+use Rattle.surf_run.specs.Statuses.{device_status, damaged_status, output_status}
 
 -- a reply that the program says: with keys and values that keep their limits, and with numbers below 2^64
 abbrev pub IsShort : Spoken → Type 0
@@ -37,16 +38,16 @@ IsShort (spoken.Explained tables admitted blocks) = (tables < 2 ^ 64) × (admitt
 -- the reply was said whole, and this is the end; or only a prefix of it was said, and the run ends with 6
 abbrev pub Says : LineEnd → Reply → LineEnd → World → World → Type 0
 Says end reply result a b =
-    SaysPrefix (text_of reply) a.beside.said b.beside.said × (((result ≡ end) × (b.beside.said ≡ a.beside.said ++ text_of reply)) ⊎ (result ≡ End 6))
+    SaysPrefix (text_of reply) a.beside.said b.beside.said × (((result ≡ end) × (b.beside.said ≡ a.beside.said ++ text_of reply)) ⊎ (result ≡ End output_status))
 
 -- the same of a reply behind bytes that waited to be said
 abbrev pub SaysBehind : Bytes → LineEnd → Reply → LineEnd → World → World → Type 0
 SaysBehind waits end reply result a b =
-    SaysPrefix (waits ++ text_of reply) a.beside.said b.beside.said × (((result ≡ end) × (b.beside.said ≡ a.beside.said ++ (waits ++ text_of reply))) ⊎ (result ≡ End 6))
+    SaysPrefix (waits ++ text_of reply) a.beside.said b.beside.said × (((result ≡ end) × (b.beside.said ≡ a.beside.said ++ (waits ++ text_of reply))) ⊎ (result ≡ End output_status))
 
 -- how a line ends whose reply was said whole
 abbrev pub end_by : Reply → LineEnd
 end_by line.Bye = Quit
-end_by line.Device = End 4
-end_by (line.Damaged damage) = End 5
+end_by line.Device = End device_status
+end_by (line.Damaged damage) = End damaged_status
 end_by reply = Next

@@ -7,7 +7,6 @@ use Rattle.filter_api.specs.Spellings.{Spelling}
 use Rattle.image_model.specs.Opening.{FirstDamage}
 use Rattle.image_model.specs.Stands.{IsStateOf}
 use Rattle.line_model.specs.Replies.{Damaged, text_of}
-use Rattle.manifest_model.specs.Slots.{IsNoStore}
 use Rattle.map_model.specs.SortedMap.{Bytes}
 use Rattle.state_model.specs.State.{State}
 use Rattle.surf_run.specs.Causes.{DiskFailed, SayFailed, TakeFailed}
@@ -16,6 +15,7 @@ use Rattle.surf_run.specs.Open.{IsFreeText, OpenMoves}
 use Rattle.surf_run.specs.Outcome.{Outcome}
 use Rattle.table_file.specs.Faults.{filter_fault_of}
 use Rattle.surf_run.specs.Unserved.{Unserved}
+use Rattle.surf_run.specs.Statuses.{done_status, memory_status, limit_status}
 
 -- the reads before the first line: seven at most, and two for each table
 abbrev pub opening_bound : State → ℕ
@@ -40,16 +40,12 @@ SomeFailed old new = TakeFailed old new ⊎ DiskFailed old new ⊎ SayFailed old
 
 -- the input was read to its end or to `quit`, or 2^40 bytes of it were; or nothing was taken, since there was no memory
 abbrev pub Completed : ℕ → World → World → Type 0
-Completed status old new = (status ≡ 0) ⊎ (status ≡ 9) ⊎ ((status ≡ 7) × (new.beside.to_take ≡ old.beside.to_take))
+Completed status old new = (status ≡ done_status) ⊎ (status ≡ limit_status) ⊎ ((status ≡ memory_status) × (new.beside.to_take ≡ old.beside.to_take))
 
 -- the image is damaged, and the last line says where and how
 abbrev pub TellsDamage : Spelling → (Bytes → Fault) → Image → World → World → Type 0
 TellsDamage spelling first image old new =
     (d : Damage) × FirstDamage spelling (filter_fault_of first) image d × (new.beside.said ≡ old.beside.said ++ text_of (Damaged d))
-
--- nothing opens there: no store stands, or opening finds damage
-abbrev pub OpensNothing : Spelling → (Bytes → Fault) → Image → Type 0
-OpensNothing spelling first image = IsNoStore image ⊎ ((d : Damage) × FirstDamage spelling (filter_fault_of first) image d)
 
 -- no state stands there: what opens has damage in a block
 abbrev pub HasNoState : Spelling → Image → Type 0

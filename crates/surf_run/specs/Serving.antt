@@ -22,6 +22,7 @@ use Rattle.surf_run.specs.Kind.{Kind}
 use Rattle.surf_run.specs.Outcome.{LastReply, ReplyCutOffAt, TakenPast}
 use Rattle.surf_run.specs.declared.line_end.LineEnd.{LineEnd}
 use Rattle.surf_run.specs.declared.line_end.LineEnd.TheVariants.{End, Next, Quit}
+use Rattle.surf_run.specs.Statuses.{device_status, output_status}
 
 -- Since the first world, of these bytes the whole lines were answered, and the rest is kept. What a crash leaves is told whatever
 -- is said then, since each reply was said whole.
@@ -81,8 +82,8 @@ EndsPastAtDevice kind past start base bytes first w = (reply : Reply) × LastRep
 
 abbrev pub EndStatusOfServe : Kind → ℕ → ℕ → State → ℕ → Bytes → World → World → Type 0
 EndStatusOfServe kind past status start base bytes first w =
-    ((status ≡ 4) × EndedByReply kind AtDevice start bytes first w × EndsPastAtDevice kind past start base bytes first w)
-    ⊎ ((status ≡ 6) × ReplyCutOff kind past start base bytes first w)
+    ((status ≡ device_status) × EndedByReply kind AtDevice start bytes first w × EndsPastAtDevice kind past start base bytes first w)
+    ⊎ ((status ≡ output_status) × ReplyCutOff kind past start base bytes first w)
 
 -- how a line ended; behind the last line that was answered stand less bytes than these
 abbrev pub AfterLine : Kind → ℕ → LineEnd → State → ℕ → Bytes → Bytes → StoreValue → World → World → Type 0

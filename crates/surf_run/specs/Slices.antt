@@ -17,6 +17,7 @@ use Rattle.surf_run.specs.Dialogue.{line_bound}
 use Rattle.surf_run.specs.Kind.{Kind}
 use Rattle.surf_run.specs.declared.line_end.LineEnd.{LineEnd}
 use Rattle.surf_run.specs.declared.line_end.LineEnd.TheVariants.{End, Next, Quit}
+use Rattle.surf_run.specs.Statuses.{device_status, output_status}
 
 -- ---- a merge slice
 
@@ -32,7 +33,7 @@ EndsSlice kind Next s store a b =
     × Represents kind.spelling kind.filter_bytes store after b × EachImageStandsFor kind after b
 EndsSlice kind Quit s store a b = ⊥
 EndsSlice kind (End status) s store a b =
-    (status ≡ 4) × (tended : Tended) × (after : State) × Tend (HasCause a b) kind.filter_bytes s tended after × (Over AtDevice ≡ turn_of_slice tended)
+    (status ≡ device_status) × (tended : Tended) × (after : State) × Tend (HasCause a b) kind.filter_bytes s tended after × (Over AtDevice ≡ turn_of_slice tended)
     × TiedRunning kind store after b
 
 -- It ended so; at each moment meanwhile a crash leaves the map that was there, and no more blocks were read than these.
@@ -58,9 +59,9 @@ pub record MakesSlice (most : ℕ) (kind : Kind) (tells : Bool) (end : LineEnd) 
 -- in the merge slice behind its reply.
 abbrev pub EndStatusOfLine : Kind → ℕ → Request → Reply → State → StoreValue → World → World → Type 0
 EndStatusOfLine kind status request reply new store a b =
-    ((status ≡ 4) × (turn_of reply ≡ Over AtDevice) × Whole reply a b × (reply ≢ Device → EachImageStandsFor kind new b) × TiedRunning kind store new b)
-    ⊎ ((status ≡ 6) × (reply ≢ Device → EachImageStandsFor kind new b) × TiedRunning kind store new b)
-    ⊎ ((status ≡ 4) × (turn_of reply ≡ Onward) × Whole reply a b × WasStateAt kind b (length b.beside.said) new
+    ((status ≡ device_status) × (turn_of reply ≡ Over AtDevice) × Whole reply a b × (reply ≢ Device → EachImageStandsFor kind new b) × TiedRunning kind store new b)
+    ⊎ ((status ≡ output_status) × (reply ≢ Device → EachImageStandsFor kind new b) × TiedRunning kind store new b)
+    ⊎ ((status ≡ device_status) × (turn_of reply ≡ Onward) × Whole reply a b × WasStateAt kind b (length b.beside.said) new
     × (after : State) × Between (HasCause a b) kind.filter_bytes request new (Over AtDevice) after × TiedRunning kind store after b)
 
 -- How a line with its merge slice ended over a store that was that of a state. Where the next line follows, the state behind the

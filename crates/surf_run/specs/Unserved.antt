@@ -4,12 +4,13 @@ use Rattle.disk_trait.specs.World.{World}
 use Rattle.map_model.specs.SortedMap.{Bytes}
 use Rattle.outside.specs.During.{During}
 use Rattle.outside.specs.Streams.{SaysPrefix}
+use Rattle.surf_run.specs.Statuses.{output_status}
 
 -- a last line of this status was said whole, or a prefix of it at 6
 abbrev pub LastLine : (ℕ → Bytes → Type 0) → ℕ → World → World → Type 0
 LastLine IsText status old new =
     (meant : ℕ) × (text : Bytes) × IsText meant text
-    × (((status ≡ meant) × (new.beside.said ≡ old.beside.said ++ text)) ⊎ ((status ≡ 6) × SaysPrefix text old.beside.said new.beside.said))
+    × (((status ≡ meant) × (new.beside.said ≡ old.beside.said ++ text)) ⊎ ((status ≡ output_status) × SaysPrefix text old.beside.said new.beside.said))
 
 -- each image that a crash may leave at any moment is one that it might have left at the start
 abbrev pub Untouched : World → World → Type 0

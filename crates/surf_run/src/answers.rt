@@ -15,9 +15,11 @@ ghost use Rattle.surf_run.specs.Causes.{SayFailed};
 ghost use Rattle.surf_run.specs.Kind.{filter_kind};
 ghost use Rattle.surf_run.specs.Saying.{IsShort, Says, SaysBehind, end_by};
 ghost use Rattle.surf_run.specs.Refusals.{end_of_change, end_of_refusal};
+ghost use Rattle.surf_run.specs.Statuses.{output_status};
 
 use crate::line_end::LineEnd;
 use crate::saying::{add_reply, say_behind, say_reply};
+use crate::status::Status;
 use filter_api::RangeFilter;
 use outside::Outside;
 use store_commands::{Reply, Request};
@@ -59,8 +61,8 @@ pub(crate) fn end_of(why: StoreError) -> LineEnd
     ensures { result ≡ end_of_refusal why }
 {
     match why {
-        StoreError::Device(_) => LineEnd::End(4),
-        StoreError::Damaged(_) => LineEnd::End(5),
+        StoreError::Device(_) => LineEnd::End(Status::Device as u8),
+        StoreError::Damaged(_) => LineEnd::End(Status::Damaged as u8),
         _ => LineEnd::Next,
     }
 }
@@ -70,7 +72,7 @@ fn say_refusal<W: Outside>(out: &mut W, buffer: &mut [u8], why: StoreError) -> L
     requires buffer { 0 < length buffer.old }
     requires told { told why ≢ None }
     ensures says { (reply : LineReply) → IsTrue W.tells_output → told why ≡ Some reply → Says (end_by reply) reply result (W.world out.old) (W.world out.new) }
-    ensures ends { (result ≡ end_of_refusal why) ⊎ ((result ≡ End 6) × SayFailed (W.world out.old) (W.world out.new)) }
+    ensures ends { (result ≡ end_of_refusal why) ⊎ ((result ≡ End output_status) × SayFailed (W.world out.old) (W.world out.new)) }
     ensures moves { SayMoves (W.world out.old) (W.world out.new) }
 {
     match reply_of(why) {
@@ -89,7 +91,7 @@ fn say_refusal_behind<W: Outside>(
     requires room { used < length buffer.old }
     requires told { told why ≢ None }
     ensures says { (reply : LineReply) → IsTrue W.tells_output → told why ≡ Some reply → SaysBehind (take used buffer.old) (end_by reply) reply result (W.world out.old) (W.world out.new) }
-    ensures ends { (result ≡ end_of_refusal why) ⊎ ((result ≡ End 6) × SayFailed (W.world out.old) (W.world out.new)) }
+    ensures ends { (result ≡ end_of_refusal why) ⊎ ((result ≡ End output_status) × SayFailed (W.world out.old) (W.world out.new)) }
     ensures moves { SayMoves (W.world out.old) (W.world out.new) }
 {
     match reply_of(why) {
@@ -107,7 +109,7 @@ fn say_change<W: Outside>(
     requires buffer { 0 < length buffer.old }
     requires told { told_change changed ≢ None }
     ensures says { (reply : LineReply) → IsTrue W.tells_output → told_change changed ≡ Some reply → Says (end_by reply) reply result (W.world out.old) (W.world out.new) }
-    ensures ends { (result ≡ end_of_change changed) ⊎ ((result ≡ End 6) × SayFailed (W.world out.old) (W.world out.new)) }
+    ensures ends { (result ≡ end_of_change changed) ⊎ ((result ≡ End output_status) × SayFailed (W.world out.old) (W.world out.new)) }
     ensures moves { SayMoves (W.world out.old) (W.world out.new) }
 {
     match changed {
@@ -200,7 +202,7 @@ fn say_found<W: Outside>(out: &mut W, buffer: &mut [u8], pair: Option<(&[u8], &[
     requires buffer { 0 < length buffer.old }
     requires sound { IfSome pair (λ p. IsEntry (entry_of p.0.now (Some p.1.now))) }
     ensures says { IsTrue W.tells_output → Says Next (found (option_map (λ p. (p.0.now, p.1.now)) pair.entry)) result (W.world out.old) (W.world out.new) }
-    ensures cause { (result ≡ Next) ⊎ ((result ≡ End 6) × SayFailed (W.world out.old) (W.world out.new)) }
+    ensures cause { (result ≡ Next) ⊎ ((result ≡ End output_status) × SayFailed (W.world out.old) (W.world out.new)) }
     ensures moves { SayMoves (W.world out.old) (W.world out.new) }
 {
     match pair {
@@ -264,7 +266,7 @@ fn range_line<F: RangeFilter, W: Outside>(
         };
         match add_reply(out, buffer, used, &Reply::At { key, value }) {
             Ok(waits) => used = waits,
-            Err(_) => return LineEnd::End(6),
+            Err(_) => return LineEnd::End(Status::Output as u8),
         }
         count += 1;
     }

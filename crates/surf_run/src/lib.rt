@@ -3,7 +3,8 @@
 //! [`run`] reads the words by `program_words`. `format` makes the device an empty store. `serve` opens the store on it, answers
 //! the lines of the input until its end or `quit`, and answers the exit status. `load` opens it too, makes steps that follow from
 //! a seed, and tells the summary of the map that is then there. `settings` opens it and changes what new tables get, and `grow`
-//! gives it more pages. A put or a delete is written to the log and made to last before its `ok` is said. Its contract is the
+//! gives it more pages. `check` reads all of it, says what is wrong, and changes nothing.
+//! A put or a delete is written to the log and made to last before its `ok` is said. Its contract is the
 //! promise of the whole program: what was said is what one sorted map answers, at each moment a crash leaves the map after some
 //! first lines that have all that was acknowledged and none that was refused, and no more blocks are read than the filters of the
 //! tables admit. [`serve_line`] answers one line over an opened store, with the merge
@@ -22,6 +23,8 @@
 
 mod answers;
 mod bounds;
+mod check_lines;
+mod checking;
 mod crash_examples;
 mod format_lines;
 mod formatting;
@@ -37,6 +40,7 @@ mod pending;
 mod reset_lines;
 mod resetting;
 mod saying;
+mod status;
 mod top;
 
 pub use laws::{replies_are_of_the_map, runs_chain};

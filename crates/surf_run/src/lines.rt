@@ -8,10 +8,12 @@ ghost use Rattle.surf_run.specs.Causes.{IsServing, LineMoves, NoFall, ShowsSomeD
 ghost use Rattle.surf_run.specs.Kind.{filter_kind};
 ghost use Rattle.surf_run.specs.Outcome.{EndOfServe, Outcome};
 ghost use Rattle.surf_run.specs.Serving.{AnswersPart, ServeInvariant};
+ghost use Rattle.surf_run.specs.Statuses.{done_status, device_status, damaged_status, output_status};
 
 use crate::line_end::LineEnd;
 use crate::one_line::answer;
 use crate::pending::Pending;
+use crate::status::Status;
 use filter_api::RangeFilter;
 use key_base::MAX_INPUT_BYTES;
 use outside::Outside;
@@ -80,17 +82,17 @@ fn end_input<F: RangeFilter, W: Outside>(
         → ServeInvariant (filter_kind F.spelling F.built_cutoff) start base taken pending.now store.old (W.world first) (W.world out.old)
         → EndOfServe (filter_kind F.spelling F.built_cutoff) result start base taken (W.world first) (W.world out.new) }
     ensures cause { StatusCause result (W.world out.old) (W.world out.new) }
-    ensures shown { IsTrue W.tells → IsTrue W.tells_output → result ≡ 5 → ShowsSomeDamage (W.world out.new) }
-    ensures statuses { (result ≡ 0) ⊎ (result ≡ 4) ⊎ (result ≡ 5) ⊎ (result ≡ 6) }
+    ensures shown { IsTrue W.tells → IsTrue W.tells_output → result ≡ damaged_status → ShowsSomeDamage (W.world out.new) }
+    ensures statuses { (result ≡ done_status) ⊎ (result ≡ device_status) ⊎ (result ≡ damaged_status) ⊎ (result ≡ output_status) }
     ensures moves { LineMoves (W.world out.old) (W.world out.new) }
     ensures within { WritesWithin (page_bytes * store.old.manifest.version.pages) (W.world out.old) (W.world out.new) }
 {
     if pending.is_empty() {
-        return 0;
+        return Status::Done as u8;
     }
     match answer(store, scratch, buffer, out, pending.as_slice()) {
-        LineEnd::Next => 0,
-        LineEnd::Quit => 0,
+        LineEnd::Next => Status::Done as u8,
+        LineEnd::Quit => Status::Done as u8,
         LineEnd::End(status) => status,
     }
 }
@@ -128,8 +130,8 @@ pub(crate) fn serve<F: RangeFilter, W: Outside>(
         → ServeInvariant (filter_kind F.spelling F.built_cutoff) start base [] pending.old store.old (W.world first) (W.world out.old)
         → Outcome (filter_kind F.spelling F.built_cutoff) result start base (W.world first) (W.world out.new) }
     ensures cause { StatusCause result (W.world out.old) (W.world out.new) }
-    ensures shown { IsTrue W.tells → IsTrue W.tells_output → result ≡ 5 → ShowsSomeDamage (W.world out.new) }
-    ensures statuses { IsServing result ⊎ (result ≡ 5) }
+    ensures shown { IsTrue W.tells → IsTrue W.tells_output → result ≡ damaged_status → ShowsSomeDamage (W.world out.new) }
+    ensures statuses { IsServing result ⊎ (result ≡ damaged_status) }
     ensures counts { NoFall (W.world out.old) (W.world out.new) }
     ensures within { WritesWithin (page_bytes * store.old.manifest.version.pages) (W.world out.old) (W.world out.new) }
 {
@@ -138,7 +140,7 @@ pub(crate) fn serve<F: RangeFilter, W: Outside>(
         let most = room_for(left, piece.len());
         let taken = match out.take(&mut piece[..most]) {
             Ok(taken) => taken,
-            Err(_) => return 3,
+            Err(_) => return Status::Input as u8,
         };
         if taken == 0 {
             return end_input(store, pending, scratch, buffer, out);
@@ -146,9 +148,9 @@ pub(crate) fn serve<F: RangeFilter, W: Outside>(
         left -= taken as u64;
         match feed(store, pending, scratch, buffer, out, &piece[..taken]) {
             LineEnd::Next => {}
-            LineEnd::Quit => return 0,
+            LineEnd::Quit => return Status::Done as u8,
             LineEnd::End(status) => return status,
         }
     }
-    9
+    Status::Limit as u8
 }

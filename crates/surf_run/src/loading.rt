@@ -1,10 +1,8 @@
 //! A load: steps that follow from a seed, made over an opened store, and the summary of its map.
 ghost use Rattle.std.specs.Prelude.{◌≡◌, ◌⊎◌, ◌*◌, ◌++◌, ℕ, [], false, None, IfErr, IfOk, IsTrue, MatchResult};
 ghost use Rattle.block_model.specs.Pages.{page_bytes};
-ghost use Rattle.byte_fields.specs.declared.parts.Damage.{Damage};
 ghost use Rattle.disk_trait.specs.World.{Now, WriteMoves};
 ghost use Rattle.entry_model.specs.Entries.{entry_of};
-ghost use Rattle.image_model.specs.Opening.{FirstDamage};
 ghost use Rattle.image_model.specs.Stands.{IsStateOf};
 ghost use Rattle.line_model.specs.Limits.{limit_of};
 ghost use Rattle.line_model.specs.Requests.{Seek};
@@ -22,20 +20,20 @@ ghost use Rattle.store_core.specs.Getting.{IsUndamaged};
 ghost use Rattle.store_core.specs.Scans.{IsScanShown};
 ghost use Rattle.store_core.specs.Represents.{Represents};
 ghost use Rattle.surf_run.specs.Causes.{IfDevice, LineMoves, RunMeetsDamage, SayFailed, ShowsSomeDamage, StatusCause, WithinPages, WritesWithin};
-ghost use Rattle.surf_run.specs.ServedOrNot.{HasNoState, NoLineAnswered, OpensNothing, SomeFailed, TellsDamage};
+ghost use Rattle.surf_run.specs.ServedOrNot.{HasNoState, NoLineAnswered, SomeFailed, TellsDamage};
 ghost use Rattle.surf_run.specs.Dialogue.{slice_blocks};
 ghost use Rattle.surf_run.specs.Kind.{filter_kind};
 ghost use Rattle.surf_run.specs.Loading.{IsChanged, IsStepped, LoadInvariant, MakesStep, StepCause, is_passed_over};
 ghost use Rattle.surf_run.specs.Loads.{IsLoading, LoadEnds, Loads, change_of};
-ghost use Rattle.surf_run.specs.Open.{IsOpeningText};
-ghost use Rattle.surf_run.specs.Unserved.{Unserved};
-ghost use Rattle.table_file.specs.Faults.{filter_fault_of};
+ghost use Rattle.surf_run.specs.Open.{OpeningEnds};
 ghost use Rattle.table_model.specs.Tables.{filter_bytes_of};
+ghost use Rattle.surf_run.specs.Statuses.{done_status, damaged_status, output_status, memory_status, store_status};
 
 use crate::line_end::LineEnd;
 use crate::one_line::{SLICE_BLOCKS, merge_slice};
 use crate::opening::{open_or_say, say_why};
 use crate::saying::say_last;
+use crate::status::Status;
 use filter_api::RangeFilter;
 use load_gen::{LINE_BYTES, LoadGen, LoadStep, Summary, spell_summary};
 use outside::Outside;
@@ -165,14 +163,14 @@ fn summarise<F: RangeFilter, W: Outside>(
 
 // Says the summary line of so many steps, of which so many were refused.
 fn say_summary<W: Outside>(out: &mut W, summary: &Summary, count: u64, refused: u64) -> u8
-    ensures said { IsTrue W.tells_output → result ≡ 0 → (W.world out.new).beside.said ≡ (W.world out.old).beside.said ++ summary_text count refused summary.now }
+    ensures said { IsTrue W.tells_output → result ≡ done_status → (W.world out.new).beside.said ≡ (W.world out.old).beside.said ++ summary_text count refused summary.now }
     ensures prefix { IsTrue W.tells_output → SaysPrefix (summary_text count refused summary.now) (W.world out.old).beside.said (W.world out.new).beside.said }
-    ensures ends { (result ≡ 0) ⊎ ((result ≡ 6) × SayFailed (W.world out.old) (W.world out.new)) }
+    ensures ends { (result ≡ done_status) ⊎ ((result ≡ output_status) × SayFailed (W.world out.old) (W.world out.new)) }
     ensures moves { SayMoves (W.world out.old) (W.world out.new) }
 {
     let mut line = [0; LINE_BYTES];
     let end = spell_summary(count, refused, summary, &mut line);
-    say_last(out, &line[..end], 0)
+    say_last(out, &line[..end], Status::Done as u8)
 }
 
 // Ends a load whose steps were all made, with its summary, or with why there is none.
@@ -185,7 +183,7 @@ fn end_load<F: RangeFilter, W: Outside>(
     requires running { store.now.stopped ≡ false }
     ensures ends { (start : State) (seed : ℕ) (first : _) → IsTrue W.tells → IsTrue W.tells_output → LoadInvariant (filter_kind F.spelling F.built_cutoff) start seed count refused store.now (W.world first) (W.world out.old)
         → LoadEnds (filter_kind F.spelling F.built_cutoff) result start seed count (W.world first) (W.world out.new) }
-    ensures shown { IsTrue W.tells → IsTrue W.tells_output → result ≡ 5 → ShowsSomeDamage (W.world out.new) }
+    ensures shown { IsTrue W.tells → IsTrue W.tells_output → result ≡ damaged_status → ShowsSomeDamage (W.world out.new) }
     ensures causes { StatusCause result (W.world out.old) (W.world out.new) }
     ensures statuses { IsLoading result }
     ensures moves { LineMoves (W.world out.old) (W.world out.new) }
@@ -202,7 +200,7 @@ fn load_store<F: RangeFilter, W: Outside>(store: Store<F>, out: &mut W, load: Lo
     requires { store.stopped ≡ false }
     ensures ends { (start : State) (first : _) → IsTrue W.tells → IsTrue W.tells_output → LoadInvariant (filter_kind F.spelling F.built_cutoff) start load.seed 0 0 store (W.world first) (W.world out.old)
         → LoadEnds (filter_kind F.spelling F.built_cutoff) result start load.seed load.count (W.world first) (W.world out.new) }
-    ensures shown { IsTrue W.tells → IsTrue W.tells_output → result ≡ 5 → RunMeetsDamage (Unit {0}) (W.world out.old) (W.world out.new) }
+    ensures shown { IsTrue W.tells → IsTrue W.tells_output → result ≡ damaged_status → RunMeetsDamage (Unit {0}) (W.world out.old) (W.world out.new) }
     ensures causes { StatusCause result (W.world out.old) (W.world out.new) }
     ensures statuses { IsLoading result }
     ensures moves { LineMoves (W.world out.old) (W.world out.new) }
@@ -231,17 +229,13 @@ pub(crate) fn open_and_load<F: RangeFilter, W: Outside>(
         → ((opened : _) × Loads (filter_kind F.spelling F.built_cutoff) result s load.seed load.count (W.world out.old) (W.world opened) (W.world out.new)) ⊎ NoLineAnswered result s (W.world out.old) (W.world out.new) }
     // Where no call fails all steps are made, but for want of memory.
     ensures complete { (s : State) → IsTrue W.tells → IsTrue W.tells_output → IsStateOf F.spelling s (W.world out.old).seen.held
-        → (SomeFailed (W.world out.old) (W.world out.new) → ⊥) → (result ≡ 0) ⊎ (result ≡ 7) }
+        → (SomeFailed (W.world out.old) (W.world out.new) → ⊥) → (result ≡ done_status) ⊎ (result ≡ memory_status) }
     ensures causes { StatusCause result (W.world out.old) (W.world out.new) }
-    ensures only_at_damage { IsTrue W.tells → IsTrue W.tells_output → result ≡ 5
+    ensures only_at_damage { IsTrue W.tells → IsTrue W.tells_output → result ≡ damaged_status
         → TellsDamage F.spelling F.first_fault (W.world out.old).seen.held (W.world out.old) (W.world out.new) ⊎ (HasNoState F.spelling (W.world out.old).seen.held × RunMeetsDamage (Unit {0}) (W.world out.old) (W.world out.new)) }
-    ensures unopened { IsTrue W.tells → IsTrue W.tells_output → OpensNothing F.spelling F.first_fault (W.world out.old).seen.held
-        → Unserved (IsOpeningText F.spelling F.first_fault (W.world out.old).seen.held) result (W.world out.old) (W.world out.new) }
-    ensures told_of_damage { (d : Damage) → IsTrue W.tells → FirstDamage F.spelling (filter_fault_of F.first_fault) (W.world out.old).seen.held d
-        → (result ≡ 5) ⊎ (result ≡ 4) ⊎ (result ≡ 6) ⊎ (result ≡ 7) }
-    ensures only_at_no_store { IsTrue W.tells → result ≡ 8 → IsNoStore (W.world out.old).seen.held }
-    ensures told_of_no_store { IsTrue W.tells → IsNoStore (W.world out.old).seen.held → (result ≡ 8) ⊎ (result ≡ 4) ⊎ (result ≡ 6) ⊎ (result ≡ 7) }
-    ensures statuses { IsLoading result ⊎ (result ≡ 8) }
+    ensures ending { OpeningEnds F.spelling F.first_fault W.tells W.tells_output result (W.world out.old) (W.world out.new) }
+    ensures only_at_no_store { IsTrue W.tells → result ≡ store_status → IsNoStore (W.world out.old).seen.held }
+    ensures statuses { IsLoading result ⊎ (result ≡ store_status) }
     ensures moves { LineMoves (W.world out.old) (W.world out.new) }
     // Where a version opens nothing changes beyond its pages.
     ensures within { (v : Version) → IsTrue W.tells → IsVersionOf v (W.world out.old).seen.held → WritesWithin (page_bytes * v.pages) (W.world out.old) (W.world out.new) }

@@ -1,27 +1,26 @@
 //! A store that stands on a device, opened and served.
-ghost use Rattle.std.specs.Prelude.{◌≡◌, ◌≤◌, ◌≢◌, ◌⊎◌, ◌*◌, ◌++◌, ℕ, [], false, IfOk, IsTrue, vec_len};
+ghost use Rattle.std.specs.Prelude.{◌≡◌, ◌≤◌, ◌⊎◌, ◌*◌, ℕ, [], false, IfOk, IsTrue, vec_len};
 ghost use Rattle.block_model.specs.Pages.{page_bytes};
-ghost use Rattle.byte_fields.specs.declared.parts.Damage.{Damage};
 ghost use Rattle.disk_trait.specs.World.{Now};
-ghost use Rattle.image_model.specs.Opening.{FirstDamage};
 ghost use Rattle.image_model.specs.Stands.{IsStateOf};
 ghost use Rattle.key_base.specs.Limits.{piece_bytes};
 ghost use Rattle.manifest_model.specs.Slots.{IsNoStore, IsVersionOf};
 ghost use Rattle.manifest_model.specs.Version.{Version};
 ghost use Rattle.state_model.specs.State.{State};
 ghost use Rattle.surf_run.specs.Causes.{IsServing, NoFall, ShowsSomeDamage, StatusCause, WritesWithin};
-ghost use Rattle.surf_run.specs.ServedOrNot.{Completed, HasNoState, NoLineAnswered, OpenedThenServed, OpensNothing, ServedOrNot, SomeFailed, TellsDamage};
+ghost use Rattle.surf_run.specs.ServedOrNot.{Completed, HasNoState, NoLineAnswered, OpenedThenServed, ServedOrNot, SomeFailed, TellsDamage};
 ghost use Rattle.surf_run.specs.Kind.{filter_kind};
-ghost use Rattle.surf_run.specs.Open.{IsFreeText, IsOpeningText};
+ghost use Rattle.surf_run.specs.Open.{IsFreeText, OpeningEnds};
 ghost use Rattle.surf_run.specs.Outcome.{Outcome};
 ghost use Rattle.surf_run.specs.Serving.{ServeInvariant};
 ghost use Rattle.surf_run.specs.Unserved.{Unserved};
-ghost use Rattle.table_file.specs.Faults.{filter_fault_of};
+ghost use Rattle.surf_run.specs.Statuses.{damaged_status, memory_status, store_status};
 
 use crate::lines::serve;
 use crate::opening::open_or_say;
 use crate::pending::Pending;
 use crate::saying::last_line;
+use crate::status::Status;
 use filter_api::RangeFilter;
 use key_base::PIECE_BYTES;
 use outside::Outside;
@@ -62,9 +61,9 @@ fn serve_store<F: RangeFilter, W: Outside>(alloc: Global, store: Store<F>, out: 
         → (W.world first).beside.to_take ≡ (W.world out.old).beside.to_take
         → ServeInvariant (filter_kind F.spelling F.built_cutoff) start base [] [] store (W.world first) (W.world out.old)
         → Outcome (filter_kind F.spelling F.built_cutoff) result start base (W.world first) (W.world out.new) ⊎ Unserved IsFreeText result (W.world out.old) (W.world out.new) × ((W.world out.new).seen.reads ≤ (W.world out.old).seen.reads) }
-    ensures shown { IsTrue W.tells → IsTrue W.tells_output → result ≡ 5 → ShowsSomeDamage (W.world out.new) }
-    ensures statuses { IsServing result ⊎ (result ≡ 5) ⊎ (result ≡ 7) }
-    ensures early { result ≡ 7 → (W.world out.new).beside.to_take ≡ (W.world out.old).beside.to_take }
+    ensures shown { IsTrue W.tells → IsTrue W.tells_output → result ≡ damaged_status → ShowsSomeDamage (W.world out.new) }
+    ensures statuses { IsServing result ⊎ (result ≡ damaged_status) ⊎ (result ≡ memory_status) }
+    ensures early { result ≡ memory_status → (W.world out.new).beside.to_take ≡ (W.world out.old).beside.to_take }
     ensures causes { StatusCause result (W.world out.old) (W.world out.new) }
     ensures counts { NoFall (W.world out.old) (W.world out.new) }
     ensures within { WritesWithin (page_bytes * store.manifest.version.pages) (W.world out.old) (W.world out.new) }
@@ -82,7 +81,7 @@ fn serve_store<F: RangeFilter, W: Outside>(alloc: Global, store: Store<F>, out: 
                 out,
             )
         }
-        Err(_) => last_line(out, &Reply::Memory, 7),
+        Err(_) => last_line(out, &Reply::Memory, Status::Memory as u8),
     }
 }
 
@@ -105,22 +104,16 @@ pub(crate) fn open_and_serve<F: RangeFilter, W: Outside>(alloc: Global, out: &mu
     // Where a version opens nothing changes beyond its pages.
     ensures within { (v : Version) → IsTrue W.tells → IsVersionOf v (W.world out.old).seen.held → WritesWithin (page_bytes * v.pages) (W.world out.old) (W.world out.new) }
     // For want of memory, and where no store stands, nothing was taken.
-    ensures early { (result ≡ 7) ⊎ (result ≡ 8) → (W.world out.new).beside.to_take ≡ (W.world out.old).beside.to_take }
+    ensures early { (result ≡ memory_status) ⊎ (result ≡ store_status) → (W.world out.new).beside.to_take ≡ (W.world out.old).beside.to_take }
     // Status 5 comes only where opening finds damage, and says the first, or where no state stands and a block that was read
     // shows the damage that was said.
-    ensures only_at_damage { IsTrue W.tells → IsTrue W.tells_input → IsTrue W.tells_output → result ≡ 5
+    ensures only_at_damage { IsTrue W.tells → IsTrue W.tells_input → IsTrue W.tells_output → result ≡ damaged_status
         → TellsDamage F.spelling F.first_fault (W.world out.old).seen.held (W.world out.old) (W.world out.new) ⊎ (HasNoState F.spelling (W.world out.old).seen.held × ShowsSomeDamage (W.world out.new)) }
-    // Where no store stands or opening finds damage, no line is served: nothing is taken or written, and the one last line says so,
-    // or `device` or `memory`.
-    ensures unopened { IsTrue W.tells → IsTrue W.tells_output → OpensNothing F.spelling F.first_fault (W.world out.old).seen.held
-        → Unserved (IsOpeningText F.spelling F.first_fault (W.world out.old).seen.held) result (W.world out.old) (W.world out.new) }
-    // Where opening finds damage, the status says so, but for the device, memory and a last line that cannot be said.
-    ensures told_of_damage { (d : Damage) → IsTrue W.tells → FirstDamage F.spelling (filter_fault_of F.first_fault) (W.world out.old).seen.held d
-        → (result ≡ 5) ⊎ (result ≡ 4) ⊎ (result ≡ 6) ⊎ (result ≡ 7) }
+    // Where no store is there or opening finds damage, no line is served, and the run says so.
+    ensures ending { OpeningEnds F.spelling F.first_fault W.tells W.tells_output result (W.world out.old) (W.world out.new) }
     // Status 8 comes exactly where both slot gates are closed, but for memory, the device and a last line that cannot be said.
-    ensures only_at_no_store { IsTrue W.tells → result ≡ 8 → IsNoStore (W.world out.old).seen.held }
-    ensures told_of_no_store { IsTrue W.tells → IsNoStore (W.world out.old).seen.held → (result ≡ 8) ⊎ (result ≡ 4) ⊎ (result ≡ 6) ⊎ (result ≡ 7) }
-    ensures statuses { IsServing result ⊎ (result ≡ 5) ⊎ (result ≡ 7) ⊎ (result ≡ 8) }
+    ensures only_at_no_store { IsTrue W.tells → result ≡ store_status → IsNoStore (W.world out.old).seen.held }
+    ensures statuses { IsServing result ⊎ (result ≡ damaged_status) ⊎ (result ≡ memory_status) ⊎ (result ≡ store_status) }
 {
     match open_or_say::<F, W>(alloc, out) {
         Ok(store) => serve_store(alloc, store, out),

@@ -1,13 +1,11 @@
 //! New numbers of a store: other settings for new tables, or more pages; and the last line that tells how that ended.
 ghost use Rattle.std.specs.Prelude.{◌≡◌, ◌≢◌, ◌⊎◌, ◌*◌, ◌++◌, false, IsTrue, MatchResult};
 ghost use Rattle.block_model.specs.Pages.{page_bytes};
-ghost use Rattle.byte_fields.specs.declared.parts.Damage.{Damage};
 ghost use Rattle.disk_trait.specs.World.{Now, WriteMoves};
 ghost use Rattle.filter_api.specs.declared.settings.Field.{Field};
-ghost use Rattle.image_model.specs.Opening.{FirstDamage};
 ghost use Rattle.image_model.specs.Stands.{IsStateOf, StandsFor};
 ghost use Rattle.key_base.specs.Limits.{last_epoch};
-ghost use Rattle.manifest_model.specs.Slots.{IsNoStore, IsVersionOf};
+ghost use Rattle.manifest_model.specs.Slots.{IsVersionOf};
 ghost use Rattle.manifest_model.specs.Version.{Version};
 ghost use Rattle.outside.specs.Streams.{SayMoves, SaysPrefix};
 ghost use Rattle.state_model.specs.State.{State};
@@ -16,18 +14,18 @@ ghost use Rattle.store_core.specs.Resetting.{IsResetRefusal, MayReset, Resets};
 ghost use Rattle.surf_run.specs.Causes.{LineMoves, SayFailed, StatusCause, WritesWithin};
 ghost use Rattle.surf_run.specs.Formats.{bad_settings_text};
 ghost use Rattle.surf_run.specs.Kind.{filter_kind};
-ghost use Rattle.surf_run.specs.Open.{IsOpeningText, OpenMoves};
-ghost use Rattle.surf_run.specs.Resetting.{AreInRange, HasBadNumberFor, IsInLastEpoch, IsOfReset, IsResetEnd, IsResetting, OpenedThenReset, ResetEnds, TellsWhich, bad_number, done_text, refusal_text, renumbered, reset_status};
-ghost use Rattle.surf_run.specs.ServedOrNot.{HasNoState, NoLineAnswered, OpensNothing, SomeFailed, TellsDamage};
-ghost use Rattle.surf_run.specs.Unserved.{Unserved};
-ghost use Rattle.table_file.specs.Faults.{filter_fault_of};
+ghost use Rattle.surf_run.specs.Open.{OpenMoves, OpeningEnds};
+ghost use Rattle.surf_run.specs.Resetting.{AreInRange, IsInLastEpoch, IsOfReset, IsResetEnd, IsResetting, OpenedThenReset, ResetEnds, TellsWhich, bad_number, done_text, refusal_text, renumbered, reset_status};
+ghost use Rattle.surf_run.specs.ServedOrNot.{NoLineAnswered, SomeFailed, TellsDamage};
 ghost use Rattle.table_model.specs.Tables.{filter_bytes_of};
+ghost use Rattle.surf_run.specs.Statuses.{done_status, device_status, damaged_status, output_status, store_status, last_epoch_status};
 
 use crate::formatting::say_bad_settings;
 use crate::new_numbers::NewNumbers;
 use crate::opening::open_or_say;
 use crate::reset_lines::{grown_line, settings_line};
 use crate::saying::{last_line, say_last};
+use crate::status::Status;
 use filter_api::RangeFilter;
 use outside::Outside;
 use std::alloc::Global;
@@ -36,19 +34,19 @@ use store_core::{Store, StoreError};
 
 // Says the numbers that the store has now.
 fn say_done<W: Outside>(out: &mut W, numbers: NewNumbers) -> u8
-    ensures said { IsTrue W.tells_output → result ≡ 0 → (W.world out.new).beside.said ≡ (W.world out.old).beside.said ++ done_text numbers }
+    ensures said { IsTrue W.tells_output → result ≡ done_status → (W.world out.new).beside.said ≡ (W.world out.old).beside.said ++ done_text numbers }
     ensures prefix { IsTrue W.tells_output → SaysPrefix (done_text numbers) (W.world out.old).beside.said (W.world out.new).beside.said }
-    ensures ends { (result ≡ 0) ⊎ ((result ≡ 6) × SayFailed (W.world out.old) (W.world out.new)) }
+    ensures ends { (result ≡ done_status) ⊎ ((result ≡ output_status) × SayFailed (W.world out.old) (W.world out.new)) }
     ensures moves { SayMoves (W.world out.old) (W.world out.new) }
 {
     match numbers {
         NewNumbers::Settings(settings) => {
             let line = settings_line(settings);
-            say_last(out, line.as_slice(), 0)
+            say_last(out, line.as_slice(), Status::Done as u8)
         }
         NewNumbers::Pages(pages) => {
             let line = grown_line(pages);
-            say_last(out, line.as_slice(), 0)
+            say_last(out, line.as_slice(), Status::Done as u8)
         }
     }
 }
@@ -56,15 +54,15 @@ fn say_done<W: Outside>(out: &mut W, numbers: NewNumbers) -> u8
 // Says why the store has the numbers that it had.
 fn say_refused<W: Outside>(out: &mut W, why: StoreError) -> u8
     requires { IsOfReset why }
-    ensures said { IsTrue W.tells_output → result ≢ 6 → (W.world out.new).beside.said ≡ (W.world out.old).beside.said ++ refusal_text why }
+    ensures said { IsTrue W.tells_output → result ≢ output_status → (W.world out.new).beside.said ≡ (W.world out.old).beside.said ++ refusal_text why }
     ensures prefix { IsTrue W.tells_output → SaysPrefix (refusal_text why) (W.world out.old).beside.said (W.world out.new).beside.said }
-    ensures ends { (result ≡ reset_status why) ⊎ ((result ≡ 6) × SayFailed (W.world out.old) (W.world out.new)) }
+    ensures ends { (result ≡ reset_status why) ⊎ ((result ≡ output_status) × SayFailed (W.world out.old) (W.world out.new)) }
     ensures moves { SayMoves (W.world out.old) (W.world out.new) }
 {
     match why {
-        StoreError::Memory => last_line(out, &Reply::Memory, 7),
-        StoreError::Device(_) => last_line(out, &Reply::Device, 4),
-        StoreError::Limit(_) => last_line(out, &Reply::LastEpoch, 10),
+        StoreError::Memory => last_line(out, &Reply::Memory, Status::Memory as u8),
+        StoreError::Device(_) => last_line(out, &Reply::Device, Status::Device as u8),
+        StoreError::Limit(_) => last_line(out, &Reply::LastEpoch, Status::LastEpoch as u8),
         StoreError::BadSettings(field) => say_bad_settings(out, field),
         _ => unreachable!(),
     }
@@ -99,10 +97,10 @@ fn reset_store<F: RangeFilter, W: Outside>(store: Store<F>, out: &mut W, numbers
     ensures ends { (s : State) (first : _) → IsTrue W.tells → IsTrue W.tells_output → OpenMoves (W.world first) (W.world out.old) → Now (StandsFor F.spelling s) (W.world first)
         → Represents F.spelling (filter_bytes_of F.spelling F.built_cutoff) store s (W.world out.old)
         → ResetEnds (filter_kind F.spelling F.built_cutoff) numbers result s (W.world first) (W.world out.new) }
-    ensures at_eight { result ≡ 8 → (field : Field) × (bad_number numbers store.manifest.version.pages ≡ Some field) × (IsTrue W.tells_output → (W.world out.new).beside.said ≡ (W.world out.old).beside.said ++ bad_settings_text field) }
-    ensures at_ten { result ≡ 10 → store.manifest.version.epoch ≡ last_epoch }
+    ensures at_eight { result ≡ store_status → (field : Field) × (bad_number numbers store.manifest.version.pages ≡ Some field) × (IsTrue W.tells_output → (W.world out.new).beside.said ≡ (W.world out.old).beside.said ++ bad_settings_text field) }
+    ensures at_ten { result ≡ last_epoch_status → store.manifest.version.epoch ≡ last_epoch }
     ensures causes { StatusCause result (W.world out.old) (W.world out.new) }
-    ensures statuses { IsResetEnd result ⊎ (result ≡ 4) ⊎ (result ≡ 6) }
+    ensures statuses { IsResetEnd result ⊎ (result ≡ device_status) ⊎ (result ≡ output_status) }
     ensures moves { LineMoves (W.world out.old) (W.world out.new) }
     ensures within { WritesWithin (page_bytes * store.manifest.version.pages) (W.world out.old) (W.world out.new) }
 {
@@ -143,16 +141,12 @@ pub(crate) fn open_and_reset<F: RangeFilter, W: Outside>(
     ensures complete { (s : State) → IsTrue W.tells → IsTrue W.tells_output → IsStateOf F.spelling s (W.world out.old).seen.held
         → (SomeFailed (W.world out.old) (W.world out.new) → ⊥) → IsResetEnd result }
     ensures causes { StatusCause result (W.world out.old) (W.world out.new) }
-    ensures only_at_damage { IsTrue W.tells → IsTrue W.tells_output → result ≡ 5 → TellsDamage F.spelling F.first_fault (W.world out.old).seen.held (W.world out.old) (W.world out.new) }
-    ensures unopened { IsTrue W.tells → IsTrue W.tells_output → OpensNothing F.spelling F.first_fault (W.world out.old).seen.held
-        → Unserved (IsOpeningText F.spelling F.first_fault (W.world out.old).seen.held) result (W.world out.old) (W.world out.new) }
-    ensures told_of_damage { (d : Damage) → IsTrue W.tells → FirstDamage F.spelling (filter_fault_of F.first_fault) (W.world out.old).seen.held d
-        → (result ≡ 5) ⊎ (result ≡ 4) ⊎ (result ≡ 6) ⊎ (result ≡ 7) }
-    ensures told_of_no_store { IsTrue W.tells → IsNoStore (W.world out.old).seen.held → (result ≡ 8) ⊎ (result ≡ 4) ⊎ (result ≡ 6) ⊎ (result ≡ 7) }
+    ensures only_at_damage { IsTrue W.tells → IsTrue W.tells_output → result ≡ damaged_status → TellsDamage F.spelling F.first_fault (W.world out.old).seen.held (W.world out.old) (W.world out.new) }
+    ensures ending { OpeningEnds F.spelling F.first_fault W.tells W.tells_output result (W.world out.old) (W.world out.new) }
     // Status 8: no store stands there, or one for which a number is out of range, and the line says which.
-    ensures at_eight { IsTrue W.tells → result ≡ 8 → TellsWhich (IsTrue W.tells_output) numbers (W.world out.old).seen.held (W.world out.old) (W.world out.new) }
+    ensures at_eight { IsTrue W.tells → result ≡ store_status → TellsWhich (IsTrue W.tells_output) numbers (W.world out.old).seen.held (W.world out.old) (W.world out.new) }
     // Status 10: the store that stands there is in its last epoch.
-    ensures at_ten { IsTrue W.tells → result ≡ 10 → IsInLastEpoch (W.world out.old).seen.held }
+    ensures at_ten { IsTrue W.tells → result ≡ last_epoch_status → IsInLastEpoch (W.world out.old).seen.held }
     ensures statuses { IsResetting result }
     ensures moves { LineMoves (W.world out.old) (W.world out.new) }
     // Where a version opens nothing changes beyond its pages.

@@ -7,8 +7,10 @@ ghost use Rattle.store_commands.specs.Spoken.{spoken};
 ghost use Rattle.surf_run.specs.declared.line_end.LineEnd.TheVariants.{End};
 ghost use Rattle.surf_run.specs.Causes.{SayFailed, LineMoves};
 ghost use Rattle.surf_run.specs.Saying.{IsShort, Says, SaysBehind};
+ghost use Rattle.surf_run.specs.Statuses.{output_status};
 
 use crate::line_end::LineEnd;
+use crate::status::Status;
 use outside::{Outside, SayFault, say_all};
 use store_commands::{Reply, piece};
 
@@ -50,12 +52,12 @@ pub fn say_reply<W: Outside>(
 ) -> LineEnd
     requires { 0 < length buffer.old }
     ensures says { IsTrue W.tells_output → IsShort reply.now → Says end (spoken reply.now) result (W.world out.old) (W.world out.new) }
-    ensures cause { (result ≡ end) ⊎ ((result ≡ End 6) × SayFailed (W.world out.old) (W.world out.new)) }
+    ensures cause { (result ≡ end) ⊎ ((result ≡ End output_status) × SayFailed (W.world out.old) (W.world out.new)) }
     ensures moves { SayMoves (W.world out.old) (W.world out.new) }
 {
     match say_pieces(out, buffer, reply) {
         Ok(()) => end,
-        Err(_) => LineEnd::End(6),
+        Err(_) => LineEnd::End(Status::Output as u8),
     }
 }
 
@@ -101,42 +103,42 @@ pub fn say_behind<W: Outside>(
     requires room { used < length buffer.old }
     requires short { IsShort reply.now }
     ensures says { IsTrue W.tells_output → SaysBehind (take used buffer.old) end (spoken reply.now) result (W.world out.old) (W.world out.new) }
-    ensures cause { (result ≡ end) ⊎ ((result ≡ End 6) × SayFailed (W.world out.old) (W.world out.new)) }
+    ensures cause { (result ≡ end) ⊎ ((result ≡ End output_status) × SayFailed (W.world out.old) (W.world out.new)) }
     ensures moves { SayMoves (W.world out.old) (W.world out.new) }
 {
     let Ok(waits) = add_reply(out, buffer, used, reply) else {
-        return LineEnd::End(6);
+        return LineEnd::End(Status::Output as u8);
     };
     match say_all(out, &buffer[..waits]) {
         Ok(()) => end,
-        Err(_) => LineEnd::End(6),
+        Err(_) => LineEnd::End(Status::Output as u8),
     }
 }
 
 /// Says the last line of a run that answers no line, and answers its status, or 6 where it cannot be said whole.
 pub fn last_line<W: Outside>(out: &mut W, reply: &Reply<'_>, status: u8) -> u8
-    requires { status ≢ 6 }
+    requires { status ≢ output_status }
     ensures said { IsTrue W.tells_output → IsShort reply.now → result ≡ status → (W.world out.new).beside.said ≡ (W.world out.old).beside.said ++ text_of (spoken reply.now) }
     ensures prefix { IsTrue W.tells_output → SaysPrefix (text_of (spoken reply.now)) (W.world out.old).beside.said (W.world out.new).beside.said }
-    ensures ends { (result ≡ status) ⊎ ((result ≡ 6) × SayFailed (W.world out.old) (W.world out.new)) }
+    ensures ends { (result ≡ status) ⊎ ((result ≡ output_status) × SayFailed (W.world out.old) (W.world out.new)) }
     ensures moves { SayMoves (W.world out.old) (W.world out.new) }
 {
     match say_pieces(out, &mut [0; LAST_LINE_BYTES], reply) {
         Ok(()) => status,
-        Err(_) => 6,
+        Err(_) => Status::Output as u8,
     }
 }
 
 /// Says a text and answers this status, or 6 where the text cannot be said whole.
 pub fn say_last<W: Outside>(out: &mut W, text: &[u8], status: u8) -> u8
-    requires { status ≢ 6 }
+    requires { status ≢ output_status }
     ensures said { IsTrue W.tells_output → result ≡ status → (W.world out.new).beside.said ≡ (W.world out.old).beside.said ++ text.now }
     ensures prefix { IsTrue W.tells_output → SaysPrefix text.now (W.world out.old).beside.said (W.world out.new).beside.said }
-    ensures ends { (result ≡ status) ⊎ ((result ≡ 6) × SayFailed (W.world out.old) (W.world out.new)) }
+    ensures ends { (result ≡ status) ⊎ ((result ≡ output_status) × SayFailed (W.world out.old) (W.world out.new)) }
     ensures moves { SayMoves (W.world out.old) (W.world out.new) }
 {
     match say_all(out, text) {
         Ok(()) => status,
-        Err(_) => 6,
+        Err(_) => Status::Output as u8,
     }
 }

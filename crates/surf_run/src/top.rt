@@ -1,38 +1,39 @@
 //! The top call.
-ghost use Rattle.std.specs.Prelude.{◌≡◌, ◌⊎◌, ◌*◌, ◌++◌, map, string_bytes, IsTrue};
+ghost use Rattle.std.specs.Prelude.{◌≡◌, ◌⊎◌, ◌*◌, map, string_bytes, IsTrue};
 ghost use Rattle.block_model.specs.Pages.{page_bytes};
-ghost use Rattle.byte_fields.specs.declared.parts.Damage.{Damage};
 ghost use Rattle.disk_trait.specs.World.{Now};
-ghost use Rattle.image_model.specs.Opening.{FirstDamage};
 ghost use Rattle.image_model.specs.Stands.{IsStateOf};
 ghost use Rattle.manifest_model.specs.Slots.{IsNoStore, IsVersionOf};
 ghost use Rattle.manifest_model.specs.Version.{Version};
 ghost use Rattle.outside.specs.Streams.{SayMoves};
 ghost use Rattle.state_model.specs.State.{State};
 ghost use Rattle.surf_run.specs.Causes.{EndsAt, IsServing, NoFall, RunMeetsDamage, StatusCause, WritesWithin};
-ghost use Rattle.surf_run.specs.ServedOrNot.{Completed, HasNoState, NoLineAnswered, OpenedThenServed, OpensNothing, ServedOrNot, SomeFailed, TellsDamage};
+ghost use Rattle.surf_run.specs.Checks.{CheckEnds};
+ghost use Rattle.surf_run.specs.ServedOrNot.{Completed, HasNoState, NoLineAnswered, OpenedThenServed, ServedOrNot, SomeFailed, TellsDamage};
 ghost use Rattle.surf_run.specs.Kind.{filter_kind};
 ghost use Rattle.surf_run.specs.Loads.{IsLoading, LoadEnds, Loads};
-ghost use Rattle.surf_run.specs.Open.{IsOpeningText};
+ghost use Rattle.surf_run.specs.Open.{OpeningEnds};
 ghost use Rattle.surf_run.specs.RunContract.{RunContract};
 ghost use Rattle.surf_run.specs.Resetting.{IsInLastEpoch, IsResetEnd, IsResetting, OpenedThenReset, ResetEnds, TellsWhich};
-ghost use Rattle.surf_run.specs.Run.{FormatEnds, HasSettingsInRange, IfBadSettings, IfFormat, IfHelp, IfLoad, IfOpens, IfOpensWithoutGrowing, IfRefused, IfReset, IfServe, IfUnserved, IsBadSettingsText, IsHelpText, IsLoadAsk, IsMemoryText, IsRefusedAsk, IsResetAsk, IsUsageText};
+ghost use Rattle.surf_run.specs.Run.{FormatEnds, HasSettingsInRange, IfBadSettings, IfCheck, IfFormat, IfHelp, IfLoad, IfOpens, IfOpensWithoutGrowing, IfRefused, IfReset, IfServe, IfUnserved, IsBadSettingsText, IsCheckAsk, IsHelpText, IsLoadAsk, IsMemoryText, IsRefusedAsk, IsResetAsk, IsUsageText};
 ghost use Rattle.surf_run.specs.Unserved.{Unserved};
-ghost use Rattle.table_file.specs.Faults.{filter_fault_of};
+ghost use Rattle.surf_run.specs.Statuses.{done_status, wrong_words_status, damaged_status, memory_status, store_status, last_epoch_status, findings_status};
 
+use crate::checking::run_check;
 use crate::formatting::{run_format, say_bad_settings};
 use crate::loading::open_and_load;
 use crate::new_numbers::NewNumbers;
 use crate::opened::open_and_serve;
 use crate::resetting::open_and_reset;
 use crate::saying::{last_line, say_last};
+use crate::status::Status;
 use filter_api::RangeFilter;
 use outside::Outside;
 use program_words::{Asked, read_words};
 use std::alloc::Global;
 use store_commands::Reply;
 
-const USAGE: &[u8] = b"usage: surfstore PATH format|serve|load|settings|grow\n";
+const USAGE: &[u8] = b"usage: surfstore PATH format|serve|load|settings|grow|check\n";
 
 // Does what was asked for: the clauses are those of `RunContract`, each where this was asked for.
 fn run_asked<F: RangeFilter, W: Outside>(alloc: Global, asked: Asked, out: &mut W) -> u8
@@ -42,7 +43,7 @@ fn run_asked<F: RangeFilter, W: Outside>(alloc: Global, asked: Asked, out: &mut 
         → IfServe asked (((opened : _) × OpenedThenServed (filter_kind F.spelling F.built_cutoff) result s (W.world out.old) (W.world opened) (W.world out.new)) ⊎ NoLineAnswered result s (W.world out.old) (W.world out.new)) }
     ensures complete { (s : State) → IsTrue W.tells → IsTrue W.tells_input → IsTrue W.tells_output → IsStateOf F.spelling s (W.world out.old).seen.held → (SomeFailed (W.world out.old) (W.world out.new) → ⊥)
         → IfServe asked (Completed result (W.world out.old) (W.world out.new)) }
-    ensures early { IfServe asked ((result ≡ 7) ⊎ (result ≡ 8) → (W.world out.new).beside.to_take ≡ (W.world out.old).beside.to_take) }
+    ensures early { IfServe asked ((result ≡ memory_status) ⊎ (result ≡ store_status) → (W.world out.new).beside.to_take ≡ (W.world out.old).beside.to_take) }
     ensures loaded { (s : State) → IsTrue W.tells → IsTrue W.tells_output → Now (IsStateOf F.spelling s) (W.world out.old)
         → IfLoad asked (λ load. LoadEnds (filter_kind F.spelling F.built_cutoff) result s load.seed load.count (W.world out.old) (W.world out.new) ⊎ NoLineAnswered result s (W.world out.old) (W.world out.new))
         (NoLineAnswered result s (W.world out.old) (W.world out.new)) }
@@ -50,8 +51,8 @@ fn run_asked<F: RangeFilter, W: Outside>(alloc: Global, asked: Asked, out: &mut 
         → IfLoad asked (λ load. ((opened : _) × Loads (filter_kind F.spelling F.built_cutoff) result s load.seed load.count (W.world out.old) (W.world opened) (W.world out.new)) ⊎ NoLineAnswered result s (W.world out.old) (W.world out.new))
         (NoLineAnswered result s (W.world out.old) (W.world out.new)) }
     ensures load_complete { (s : State) → IsTrue W.tells → IsTrue W.tells_output → IsStateOf F.spelling s (W.world out.old).seen.held → (SomeFailed (W.world out.old) (W.world out.new) → ⊥)
-        → IfLoad asked (λ _. (result ≡ 0) ⊎ (result ≡ 7)) ((result ≡ 0) ⊎ (result ≡ 7)) }
-    ensures load_statuses { IfLoad asked (λ _. IsLoading result ⊎ (result ≡ 8)) (IsLoading result ⊎ (result ≡ 8)) }
+        → IfLoad asked (λ _. (result ≡ done_status) ⊎ (result ≡ memory_status)) ((result ≡ done_status) ⊎ (result ≡ memory_status)) }
+    ensures load_statuses { IfLoad asked (λ _. IsLoading result ⊎ (result ≡ store_status)) (IsLoading result ⊎ (result ≡ store_status)) }
     ensures reset { (s : State) → IsTrue W.tells → IsTrue W.tells_output → Now (IsStateOf F.spelling s) (W.world out.old)
         → IfReset asked (λ numbers. ResetEnds (filter_kind F.spelling F.built_cutoff) numbers result s (W.world out.old) (W.world out.new) ⊎ NoLineAnswered result s (W.world out.old) (W.world out.new))
         (NoLineAnswered result s (W.world out.old) (W.world out.new)) }
@@ -67,23 +68,21 @@ fn run_asked<F: RangeFilter, W: Outside>(alloc: Global, asked: Asked, out: &mut 
     ensures refused { IsTrue W.tells_output → IfRefused asked (Unserved IsUsageText result (W.world out.old) (W.world out.new)) }
     ensures causes { StatusCause result (W.world out.old) (W.world out.new) }
     ensures counts { NoFall (W.world out.old) (W.world out.new) }
-    ensures only_at_wrong_words { result ≡ 2 → IsRefusedAsk asked }
-    ensures told_of_wrong_words { IfRefused asked (EndsAt 2 result (W.world out.old) (W.world out.new)) }
-    ensures told_of_bad_settings { IfBadSettings asked (λ _. EndsAt 8 result (W.world out.old) (W.world out.new)) (EndsAt 8 result (W.world out.old) (W.world out.new)) }
-    ensures told_of_help { IfHelp asked (EndsAt 0 result (W.world out.old) (W.world out.new)) }
+    ensures only_at_wrong_words { result ≡ wrong_words_status → IsRefusedAsk asked }
+    ensures told_of_wrong_words { IfRefused asked (EndsAt wrong_words_status result (W.world out.old) (W.world out.new)) }
+    ensures told_of_bad_settings { IfBadSettings asked (λ _. EndsAt store_status result (W.world out.old) (W.world out.new)) (EndsAt store_status result (W.world out.old) (W.world out.new)) }
+    ensures told_of_help { IfHelp asked (EndsAt done_status result (W.world out.old) (W.world out.new)) }
     ensures untouched { IfUnserved asked (SayMoves (W.world out.old) (W.world out.new)) }
-    ensures only_at_damage { IsTrue W.tells → IsTrue W.tells_input → IsTrue W.tells_output → result ≡ 5 → TellsDamage F.spelling F.first_fault (W.world out.old).seen.held (W.world out.old) (W.world out.new) ⊎ (HasNoState F.spelling (W.world out.old).seen.held × RunMeetsDamage (IsLoadAsk asked) (W.world out.old) (W.world out.new)) }
-    ensures unopened { IsTrue W.tells → IsTrue W.tells_output → OpensNothing F.spelling F.first_fault (W.world out.old).seen.held
-        → IfOpens asked (Unserved (IsOpeningText F.spelling F.first_fault (W.world out.old).seen.held) result (W.world out.old) (W.world out.new)) }
+    ensures only_at_damage { IsTrue W.tells → IsTrue W.tells_input → IsTrue W.tells_output → result ≡ damaged_status → TellsDamage F.spelling F.first_fault (W.world out.old).seen.held (W.world out.old) (W.world out.new) ⊎ (HasNoState F.spelling (W.world out.old).seen.held × RunMeetsDamage (IsLoadAsk asked) (W.world out.old) (W.world out.new)) }
+    ensures ending { IfOpens asked (OpeningEnds F.spelling F.first_fault W.tells W.tells_output result (W.world out.old) (W.world out.new)) }
     ensures within { (v : Version) → IsTrue W.tells → IsVersionOf v (W.world out.old).seen.held → IfOpens asked (WritesWithin (page_bytes * v.pages) (W.world out.old) (W.world out.new)) }
-    ensures told_of_damage { (d : Damage) → IsTrue W.tells → FirstDamage F.spelling (filter_fault_of F.first_fault) (W.world out.old).seen.held d
-        → IfOpens asked ((result ≡ 5) ⊎ (result ≡ 4) ⊎ (result ≡ 6) ⊎ (result ≡ 7)) }
-    ensures only_at_no_store { IsTrue W.tells → result ≡ 8 → IfOpensWithoutGrowing asked (IsNoStore (W.world out.old).seen.held) }
-    ensures at_eight { IsTrue W.tells → result ≡ 8 → IfReset asked (λ numbers. TellsWhich (IsTrue W.tells_output) numbers (W.world out.old).seen.held (W.world out.old) (W.world out.new)) ⊥ }
-    ensures reset_at_damage { IsTrue W.tells → IsTrue W.tells_output → result ≡ 5 → IfReset asked (λ _. TellsDamage F.spelling F.first_fault (W.world out.old).seen.held (W.world out.old) (W.world out.new)) ⊥ }
-    ensures at_ten { result ≡ 10 → IsResetAsk asked × (IsTrue W.tells → IsInLastEpoch (W.world out.old).seen.held) }
-    ensures told_of_no_store { IsTrue W.tells → IsNoStore (W.world out.old).seen.held → IfOpens asked ((result ≡ 8) ⊎ (result ≡ 4) ⊎ (result ≡ 6) ⊎ (result ≡ 7)) }
-    ensures statuses { IsServing result ⊎ (result ≡ 2) ⊎ (result ≡ 5) ⊎ (result ≡ 7) ⊎ (result ≡ 8) ⊎ (result ≡ 10) }
+    ensures only_at_no_store { IsTrue W.tells → result ≡ store_status → IfOpensWithoutGrowing asked (IsNoStore (W.world out.old).seen.held) }
+    ensures at_eight { IsTrue W.tells → result ≡ store_status → IfReset asked (λ numbers. TellsWhich (IsTrue W.tells_output) numbers (W.world out.old).seen.held (W.world out.old) (W.world out.new)) ⊥ }
+    ensures reset_at_damage { IsTrue W.tells → IsTrue W.tells_output → result ≡ damaged_status → IfReset asked (λ _. TellsDamage F.spelling F.first_fault (W.world out.old).seen.held (W.world out.old) (W.world out.new)) ⊥ }
+    ensures at_ten { result ≡ last_epoch_status → IsResetAsk asked × (IsTrue W.tells → IsInLastEpoch (W.world out.old).seen.held) }
+    ensures check { IfCheck asked (CheckEnds F.spelling F.first_fault W.tells W.tells_output result (W.world out.old) (W.world out.new)) }
+    ensures at_twelve { result ≡ findings_status → IsCheckAsk asked }
+    ensures statuses { IsServing result ⊎ (result ≡ wrong_words_status) ⊎ (result ≡ damaged_status) ⊎ (result ≡ memory_status) ⊎ (result ≡ store_status) ⊎ (result ≡ last_epoch_status) ⊎ (result ≡ findings_status) }
 {
     match asked {
         Asked::Serve => open_and_serve::<F, W>(alloc, out),
@@ -92,11 +91,12 @@ fn run_asked<F: RangeFilter, W: Outside>(alloc: Global, asked: Asked, out: &mut 
             open_and_reset::<F, W>(alloc, out, NewNumbers::Settings(settings))
         }
         Asked::Grow(pages) => open_and_reset::<F, W>(alloc, out, NewNumbers::Pages(pages)),
+        Asked::Check => run_check::<F, W>(alloc, out),
         Asked::Format(store) => run_format::<F, W>(alloc, store.settings, store.pages, out),
         Asked::BadSettings(field) => say_bad_settings(out, field),
-        Asked::Help(text) => say_last(out, text.as_bytes(), 0),
-        Asked::Refused => say_last(out, USAGE, 2),
-        Asked::Memory => last_line(out, &Reply::Memory, 7),
+        Asked::Help(text) => say_last(out, text.as_bytes(), Status::Done as u8),
+        Asked::Refused => say_last(out, USAGE, Status::WrongWords as u8),
+        Asked::Memory => last_line(out, &Reply::Memory, Status::Memory as u8),
     }
 }
 
@@ -104,19 +104,20 @@ fn run_asked<F: RangeFilter, W: Outside>(alloc: Global, asked: Asked, out: &mut 
 ///
 /// `format` makes the device an empty store. `serve` opens the store on the device and answers the lines of the input, each
 /// reply said before the next line is begun. `load` opens it too, makes its steps, each as a line would with a merge slice behind
-/// it, and says one line of the map that is then there. `settings` and `grow` open it, give it new numbers and say them. Help and the
-/// version are said with status 0.
+/// it, and says one line of the map that is then there. `settings` and `grow` open it, give it new numbers and say them. `check`
+/// reads all of it, says what is wrong and changes nothing. Help and the version are said with status 0.
 ///
 /// | status | comes |
 /// |---|---|
-/// | 0 | the input was read to its end or to `quit`, every reply said; or the store was made, loaded or given its new numbers, or help was said |
+/// | 0 | the input was read to its end or to `quit`, every reply said; or the store was made, loaded, given its new numbers or found clean, or help was said |
 /// | 2 | clap refuses the words |
 /// | 3, 4, 6 | the input, the device, the output failed |
 /// | 5 | what was read of the device is damaged |
-/// | 7 | out of memory before the first line, in a load, or for new numbers |
+/// | 7 | out of memory before the first line, in a load or a check, or for new numbers |
 /// | 8 | not a store, already a store, a number out of range |
 /// | 9 | 2^40 bytes were taken |
 /// | 10 | `settings` or `grow` at the last epoch |
+/// | 12 | `check` found something wrong |
 pub fn run<F: RangeFilter, W: Outside>(alloc: Global, words: &[String], out: &mut W) -> u8
     ensures { RunContract W.world W.tells W.tells_input W.tells_output (filter_kind F.spelling F.built_cutoff) F.first_fault (map string_bytes words.now) result out.old out.new }
 {

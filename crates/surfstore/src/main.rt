@@ -26,7 +26,11 @@ fn main(rt: HostRuntime) -> ExitCode {
     } else {
         words.remove(0)
     };
-    let mut out = FileOutside::at(rt, path);
+    let mut out = if reads_alone(&words) {
+        FileOutside::reading(rt, path)
+    } else {
+        FileOutside::at(rt, path)
+    };
     ExitCode::from(run::<SurfFilter<Global>, _>(alloc, words.as_slice(), &mut out))
 }
 
@@ -34,6 +38,14 @@ fn main(rt: HostRuntime) -> ExitCode {
 fn asks_for_text(words: &[String]) -> bool {
     match words.first() {
         Some(word) => matches!(word.as_str(), "--help" | "-h" | "--version" | "-V"),
+        None => false,
+    }
+}
+
+// Whether the words after the path ask for what only reads: then no file is made, and none is written.
+fn reads_alone(words: &[String]) -> bool {
+    match words.first() {
+        Some(word) => word.as_str() == "check",
         None => false,
     }
 }

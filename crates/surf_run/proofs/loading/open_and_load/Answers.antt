@@ -4,7 +4,7 @@ use Rattle.surf_run.specs.Kind.{filter_kind}
 use Rattle.surf_run.proofs.EndCauses.{causes_on, lines_on}
 use Rattle.surf_run.proofs.LoadEnds.{damage_since, ends_completed, ends_never_five, load_ends_by, loaded_now, loaded_open, loading_never_eight, unserved_ends_by}
 use Rattle.surf_run.proofs.Moments.{tied_stands}
-use Rattle.surf_run.proofs.Openings.{opened_within}
+use Rattle.surf_run.proofs.Openings.{opened_ends, opened_within}
 use Rattle.surf_run.proofs.loading.open_and_load.Goals as goal
 
 -- ---- an opened store
@@ -62,14 +62,9 @@ returns-in-Ok-clause-only_at_damage g c tells output five =
       damage_since (Unit {0}) c.load_store.result old mid new c.open_or_say.ensures.moves.counts c.in-Ok.ensures.still.beside (c.load_store.ensures.shown tells output five),
     )
 
-pub returns-in-Ok-clause-unopened : goal.returns-in-Ok-clause-unopened
-returns-in-Ok-clause-unopened g c tells output nothing = absurd (elim nothing [ inl none ↦ c.in-Ok.ensures.told_of_no_store tells none | inr found ↦ c.in-Ok.ensures.told_of_damage found.0 tells found.1 ])
-
-pub returns-in-Ok-clause-told_of_damage : goal.returns-in-Ok-clause-told_of_damage
-returns-in-Ok-clause-told_of_damage g c d tells damaged = absurd (c.in-Ok.ensures.told_of_damage d tells damaged)
-
-pub returns-in-Ok-clause-told_of_no_store : goal.returns-in-Ok-clause-told_of_no_store
-returns-in-Ok-clause-told_of_no_store g c tells none = absurd (c.in-Ok.ensures.told_of_no_store tells none)
+pub returns-in-Ok-clause-ending : goal.returns-in-Ok-clause-ending
+returns-in-Ok-clause-ending g c =
+    opened_ends g.F.RangeFilter.spelling g.F.RangeFilter.first_fault g.W.Disk.tells g.W.Outside.tells_output c.load_store.result (g.W.Disk.world c.args.out.now) (g.W.Disk.world c.load_store.new.out) c.in-Ok.ensures.opens_something
 
 pub returns-in-Ok-clause-only_at_no_store : goal.returns-in-Ok-clause-only_at_no_store
 returns-in-Ok-clause-only_at_no_store g c tells eight = absurd (loading_never_eight c.load_store.result c.load_store.ensures.statuses eight)

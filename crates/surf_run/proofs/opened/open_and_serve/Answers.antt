@@ -8,7 +8,7 @@ use Rattle.surf_run.specs.Open.{IsFreeText}
 use Rattle.surf_run.proofs.EndCauses.{causes_on, no_fall_on}
 use Rattle.surf_run.proofs.LastLines.{completed, free_status, never_eight, never_five, read_since, unserved_since}
 use Rattle.surf_run.proofs.Moments.{tied_stands}
-use Rattle.surf_run.proofs.Openings.{opened_within, served_now, served_open}
+use Rattle.surf_run.proofs.Openings.{opened_ends, opened_within, served_now, served_open}
 use Rattle.surf_run.proofs.opened.open_and_serve.Goals as goal
 
 -- ---- an opened store
@@ -80,17 +80,12 @@ returns-in-Ok-clause-only_at_damage g c tells input output five = inr (
   c.serve_store.ensures.shown tells output five,
 )
 
-pub returns-in-Ok-clause-told_of_damage : goal.returns-in-Ok-clause-told_of_damage
-returns-in-Ok-clause-told_of_damage g c d tells damaged = absurd (c.in-Ok.ensures.told_of_damage d tells damaged)
-
-pub returns-in-Ok-clause-unopened : goal.returns-in-Ok-clause-unopened
-returns-in-Ok-clause-unopened g c tells output nothing = absurd (elim nothing [ inl none ↦ c.in-Ok.ensures.told_of_no_store tells none | inr found ↦ c.in-Ok.ensures.told_of_damage found.0 tells found.1 ])
+pub returns-in-Ok-clause-ending : goal.returns-in-Ok-clause-ending
+returns-in-Ok-clause-ending g c =
+    opened_ends g.F.RangeFilter.spelling g.F.RangeFilter.first_fault g.W.Disk.tells g.W.Outside.tells_output c.serve_store.result (g.W.Disk.world c.args.out.now) (g.W.Disk.world c.serve_store.new.out) c.in-Ok.ensures.opens_something
 
 pub returns-in-Ok-clause-only_at_no_store : goal.returns-in-Ok-clause-only_at_no_store
 returns-in-Ok-clause-only_at_no_store g c tells eight = absurd (never_eight c.serve_store.result c.serve_store.ensures.statuses eight)
-
-pub returns-in-Ok-clause-told_of_no_store : goal.returns-in-Ok-clause-told_of_no_store
-returns-in-Ok-clause-told_of_no_store g c tells none = absurd (c.in-Ok.ensures.told_of_no_store tells none)
 
 pub returns-in-Ok-clause-early : goal.returns-in-Ok-clause-early
 returns-in-Ok-clause-early g c is = elim is [

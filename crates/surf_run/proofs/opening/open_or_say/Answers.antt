@@ -28,14 +28,13 @@ returns-in-Ok-clause-version g c tells = let opened = c.in-Ok.ensures.answer tel
 pub returns-in-Ok-clause-still : goal.returns-in-Ok-clause-still
 returns-in-Ok-clause-still g c = open_moves (7 + 2 * max_tables) (g.W.Disk.world c.args.out.now) (g.W.Disk.world c.open_store.new.disk) c.open_store.ensures.moves
 
-pub returns-in-Ok-clause-told_of_damage : goal.returns-in-Ok-clause-told_of_damage
-returns-in-Ok-clause-told_of_damage g c d tells damaged =
+pub returns-in-Ok-clause-opens_something : goal.returns-in-Ok-clause-opens_something
+returns-in-Ok-clause-opens_something g c tells nothing =
     let opened = c.in-Ok.ensures.answer tells in
-    opened_has_none g.F.RangeFilter.spelling (filter_fault_of g.F.RangeFilter.first_fault) _ _ _ d g.met.F.RangeFilter.spells_one opened.opens damaged
-
-pub returns-in-Ok-clause-told_of_no_store : goal.returns-in-Ok-clause-told_of_no_store
-returns-in-Ok-clause-told_of_no_store g c tells none =
-    let opened = c.in-Ok.ensures.answer tells in is_store _ _ opened.opens.version_is none
+    elim nothing [
+      | inl none ↦ is_store _ _ opened.opens.version_is none
+      | inr found ↦ opened_has_none g.F.RangeFilter.spelling (filter_fault_of g.F.RangeFilter.first_fault) _ _ _ found.0 g.met.F.RangeFilter.spells_one opened.opens found.1
+    ]
 
 pub returns-in-Ok-clause-moves : goal.returns-in-Ok-clause-moves
 returns-in-Ok-clause-moves g c =
@@ -70,32 +69,25 @@ returns-in-Err-clause-unanswered g c s tells output here =
           (few_reads mid.seen.reads old.seen.reads (length s.tables) (c.open_store.ensures.reads s tells here)),
     )
 
-pub returns-in-Err-clause-unopened : goal.returns-in-Err-clause-unopened
-returns-in-Err-clause-unopened g c tells output nothing =
+pub returns-in-Err-clause-ending : goal.returns-in-Err-clause-ending
+returns-in-Err-clause-ending g c =
     let old = g.W.Disk.world c.args.out.now in
     let mid = g.W.Disk.world c.open_store.new.disk in
     let new = g.W.Disk.world c.say_why.new.out in
     let why = c.in-Err.why in
     let is = opening_of why old mid c.in-Err.ensures.cause in
     let opened = open_moves (7 + 2 * max_tables) old mid c.open_store.ensures.moves in
-    let is_text = IsOpeningText g.F.RangeFilter.spelling g.F.RangeFilter.first_fault old.seen.held in
-    unserved_since is_text c.say_why.result old mid new opened (g.met.W.Outside.said_now c.args.out.now)
-    (unserved is_text mid new (g.met.W.Outside.said_now c.open_store.new.disk) c.say_why.ensures.moves c.say_why.result (opening_status why) (opening_text why) (opening_is_text g.F.RangeFilter.spelling g.F.RangeFilter.first_fault why old.seen.held (c.in-Err.ensures.answer tells))
-    (c.say_why.ensures.prefix output) (λ same. c.say_why.ensures.said output (λ six. not_six why is (sym same ∙ six))) c.say_why.ensures.ends)
-
-pub returns-in-Err-clause-told_of_damage : goal.returns-in-Err-clause-told_of_damage
-returns-in-Err-clause-told_of_damage g c d tells damaged =
-    let old = g.W.Disk.world c.args.out.now in
-    let mid = g.W.Disk.world c.open_store.new.disk in
-    let is = opening_of c.in-Err.why old mid c.in-Err.ensures.cause in
-    told_damage g.F.RangeFilter.spelling g.F.RangeFilter.first_fault c.in-Err.why old.seen.held c.say_why.result mid (g.W.Disk.world c.say_why.new.out) is (c.in-Err.ensures.answer tells) c.say_why.ensures.ends d damaged
-
-pub returns-in-Err-clause-told_of_no_store : goal.returns-in-Err-clause-told_of_no_store
-returns-in-Err-clause-told_of_no_store g c tells none =
-    let old = g.W.Disk.world c.args.out.now in
-    let mid = g.W.Disk.world c.open_store.new.disk in
-    let is = opening_of c.in-Err.why old mid c.in-Err.ensures.cause in
-    told_no_store g.F.RangeFilter.spelling g.F.RangeFilter.first_fault c.in-Err.why old.seen.held c.say_why.result mid (g.W.Disk.world c.say_why.new.out) is (c.in-Err.ensures.answer tells) c.say_why.ensures.ends none
+    let spelling = g.F.RangeFilter.spelling in
+    let first = g.F.RangeFilter.first_fault in
+    let is_text = IsOpeningText spelling first old.seen.held in
+    record {
+      unopened = λ tells output nothing.
+          unserved_since is_text c.say_why.result old mid new opened (g.met.W.Outside.said_now c.args.out.now)
+          (unserved is_text mid new (g.met.W.Outside.said_now c.open_store.new.disk) c.say_why.ensures.moves c.say_why.result (opening_status why) (opening_text why) (opening_is_text spelling first why old.seen.held (c.in-Err.ensures.answer tells))
+          (c.say_why.ensures.prefix output) (λ same. c.say_why.ensures.said output (λ six. not_six why is (sym same ∙ six))) c.say_why.ensures.ends);
+      told_of_damage = λ d tells damaged. told_damage spelling first why old.seen.held c.say_why.result mid new is (c.in-Err.ensures.answer tells) c.say_why.ensures.ends d damaged;
+      told_of_no_store = λ tells none. told_no_store spelling first why old.seen.held c.say_why.result mid new is (c.in-Err.ensures.answer tells) c.say_why.ensures.ends none;
+    }
 
 pub returns-in-Err-clause-only_at_damage : goal.returns-in-Err-clause-only_at_damage
 returns-in-Err-clause-only_at_damage g c tells output five =

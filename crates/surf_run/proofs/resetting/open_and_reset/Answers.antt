@@ -6,7 +6,7 @@ use Rattle.surf_run.specs.Kind.{filter_kind}
 use Rattle.surf_run.proofs.EndCauses.{causes_on, lines_on}
 use Rattle.surf_run.proofs.Moments.{image_stands, tied_stands}
 use Rattle.surf_run.proofs.NewNumbersSet.{all_statuses, completed, never_five, no_store_told, opened_now, opening_never_ten, unopened_ends}
-use Rattle.surf_run.proofs.Openings.{opened_within}
+use Rattle.surf_run.proofs.Openings.{opened_ends, opened_within}
 use Rattle.surf_run.proofs.resetting.open_and_reset.Goals as goal
 
 -- ---- an opened store
@@ -39,14 +39,9 @@ returns-in-Ok-clause-complete g c s tells output here none =
 pub returns-in-Ok-clause-only_at_damage : goal.returns-in-Ok-clause-only_at_damage
 returns-in-Ok-clause-only_at_damage g c tells output five = absurd (never_five c.reset_store.result c.reset_store.ensures.statuses five)
 
-pub returns-in-Ok-clause-unopened : goal.returns-in-Ok-clause-unopened
-returns-in-Ok-clause-unopened g c tells output nothing = absurd (elim nothing [ inl none ↦ c.in-Ok.ensures.told_of_no_store tells none | inr found ↦ c.in-Ok.ensures.told_of_damage found.0 tells found.1 ])
-
-pub returns-in-Ok-clause-told_of_damage : goal.returns-in-Ok-clause-told_of_damage
-returns-in-Ok-clause-told_of_damage g c d tells damaged = absurd (c.in-Ok.ensures.told_of_damage d tells damaged)
-
-pub returns-in-Ok-clause-told_of_no_store : goal.returns-in-Ok-clause-told_of_no_store
-returns-in-Ok-clause-told_of_no_store g c tells none = absurd (c.in-Ok.ensures.told_of_no_store tells none)
+pub returns-in-Ok-clause-ending : goal.returns-in-Ok-clause-ending
+returns-in-Ok-clause-ending g c =
+    opened_ends g.F.RangeFilter.spelling g.F.RangeFilter.first_fault g.W.Disk.tells g.W.Outside.tells_output c.reset_store.result (g.W.Disk.world c.args.out.now) (g.W.Disk.world c.reset_store.new.out) c.in-Ok.ensures.opens_something
 
 pub returns-in-Ok-clause-at_eight : goal.returns-in-Ok-clause-at_eight
 returns-in-Ok-clause-at_eight g c tells eight =
@@ -88,7 +83,7 @@ pub returns-in-Err-clause-at_eight : goal.returns-in-Err-clause-at_eight
 returns-in-Err-clause-at_eight g c tells eight =
     let old = g.W.Disk.world c.args.out.now in
     let none = c.in-Err.ensures.only_at_no_store tells eight in
-    inl (none, λ output. no_store_told g.F.RangeFilter.spelling g.F.RangeFilter.first_fault old.seen.held c.in-Err.status old (g.W.Disk.world c.open_or_say.new.out) (c.in-Err.ensures.unopened tells output (inl none)) eight)
+    inl (none, λ output. no_store_told g.F.RangeFilter.spelling g.F.RangeFilter.first_fault old.seen.held c.in-Err.status old (g.W.Disk.world c.open_or_say.new.out) (c.in-Err.ensures.ending.unopened tells output (inl none)) eight)
 
 pub returns-in-Err-clause-at_ten : goal.returns-in-Err-clause-at_ten
 returns-in-Err-clause-at_ten g c tells ten = absurd (opening_never_ten c.in-Err.status c.in-Err.ensures.statuses ten)

@@ -4,7 +4,7 @@ use Rattle.image_model.proofs.Sound.{state_sound}
 use Rattle.surf_run.specs.Kind.{filter_kind}
 use Rattle.surf_run.specs.Run.{IsBadSettingsText, IsMemoryText}
 use Rattle.surf_run.specs.declared.new_numbers.NewNumbers.TheVariants as new
-use Rattle.surf_run.proofs.Asking.{has_settings_in_range, if_bad, if_format, if_help, if_load, if_nothing, if_opens, if_opens_without_growing, if_refused, if_reset, if_serve, is_load, is_refused, is_reset}
+use Rattle.surf_run.proofs.Asking.{has_settings_in_range, if_bad, if_check, if_format, if_help, if_load, if_nothing, if_opens, if_opens_without_growing, if_refused, if_reset, if_serve, is_check, is_load, is_refused, is_reset}
 use Rattle.surf_run.proofs.Chaining.{one_map_lasts}
 use Rattle.surf_run.proofs.Formats.{format_ends}
 use Rattle.surf_run.proofs.LastLines.{unserved_wider}
@@ -53,15 +53,17 @@ returns g c =
       told_of_bad_settings = λ field bad. if_bad words asked field _ _ bad asks by.told_of_bad_settings (λ ends. ends);
       told_of_help = λ is. if_help words asked _ is asks by.told_of_help;
       untouched = λ is. if_nothing words asked _ is asks by.untouched;
-      unopened = λ tells output nothing is. if_opens words asked _ is asks (by.unopened tells output nothing);
+      unopened = λ tells output nothing is. (if_opens words asked _ is asks by.ending).unopened tells output nothing;
       only_at_damage = λ tells input output five. elim (by.only_at_damage tells input output five) [
         | inl told ↦ inl told
         | inr none ↦ inr (none.0, elim none.1 [ inl shown ↦ inl shown | inr unsaid ↦ inr (is_load words asked asks unsaid.0, unsaid.1) ])
       ];
       within = λ v tells is asked_for. if_opens words asked _ asked_for asks (by.within v tells is);
-      told_of_damage = λ d tells damaged is. if_opens words asked _ is asks (by.told_of_damage d tells damaged);
+      told_of_damage = λ d tells damaged is. (if_opens words asked _ is asks by.ending).told_of_damage d tells damaged;
       only_at_no_store = λ tells eight is. if_opens_without_growing words asked _ is asks (by.only_at_no_store tells eight);
       only_at_bad_pages = λ pages tells eight is. if_reset words asked (new.Pages pages) _ _ is asks (by.at_eight tells eight) (λ never. absurd never);
-      told_of_no_store = λ tells none is. if_opens words asked _ is asks (by.told_of_no_store tells none);
+      told_of_no_store = λ tells none is. (if_opens words asked _ is asks by.ending).told_of_no_store tells none;
+      check = λ is. if_check words asked _ is asks by.check;
+      only_at_check = λ twelve. is_check words asked asks (by.at_twelve twelve);
       statuses = by.statuses;
     }

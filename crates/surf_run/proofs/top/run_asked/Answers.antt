@@ -9,12 +9,13 @@ use Rattle.surf_run.specs.ServedOrNot.{NoLineAnswered, TellsDamage, opening_boun
 use Rattle.surf_run.specs.Formats.{bad_settings_text}
 use Rattle.surf_run.specs.Kind.{filter_kind}
 use Rattle.surf_run.specs.Loads.{IsLoading, LoadEnds, Loads}
-use Rattle.surf_run.specs.Open.{IsFreeText, IsOpeningText}
+use Rattle.surf_run.specs.Open.{IsFreeText, IsOpeningText, OpeningEnds}
 use Rattle.surf_run.specs.Resetting.{IsResetEnd, IsResetting, OpenedThenReset, ResetEnds, TellsWhich}
 use Rattle.surf_run.specs.Run.{FormatEnds, IsBadSettingsText, IsHelpText, IsUsageText, usage_text}
 use Rattle.surf_run.specs.Unserved.{Unserved}
 use Rattle.surf_run.specs.declared.new_numbers.NewNumbers.{NewNumbers}
-use Rattle.surf_run.proofs.Asking.{at_bad, at_format, at_help, at_load, at_refused, at_serve, grow_opens, grow_opens_so, grow_is_reset, grow_reset, load_is_asked, load_opens, load_opens_so, memory_bad, memory_help, memory_load, memory_opens, memory_refused, memory_reset, memory_serve, serve_opens, settings_in_its_range, settings_is_reset, settings_opens, settings_opens_so, settings_reset}
+use Rattle.surf_run.proofs.Asking.{at_bad, at_check, at_format, at_help, at_load, at_refused, at_serve, check_is_asked, grow_opens, grow_opens_so, grow_is_reset, grow_reset, load_is_asked, load_opens, load_opens_so, memory_bad, memory_check, memory_help, memory_load, memory_opens, memory_refused, memory_reset, memory_serve, serve_opens, settings_in_its_range, settings_is_reset, settings_opens, settings_opens_so, settings_reset}
+use Rattle.surf_run.proofs.Checked.{check_as_statuses, checking_never_five, checking_never_ten, checking_never_three, checking_never_two, loading_never_twelve, memory_ends, reset_never_twelve, serving_never_twelve}
 use Rattle.surf_run.proofs.Footprint.{within_say}
 use Rattle.surf_run.proofs.LastLines.{read_since, said_reads, unserved}
 use Rattle.surf_run.proofs.LoadEnds.{as_statuses, never_two}
@@ -35,11 +36,8 @@ returns-in-Serve-clause-answers g c s tells input output here = at_serve c.args.
 pub returns-in-Serve-clause-complete : goal.returns-in-Serve-clause-complete
 returns-in-Serve-clause-complete g c s tells input output here none = at_serve c.args.asked _ c.in-Serve.is (c.open_and_serve.ensures.complete s tells input output here none)
 
-pub returns-in-Serve-clause-unopened : goal.returns-in-Serve-clause-unopened
-returns-in-Serve-clause-unopened g c tells output nothing = serve_opens c.args.asked _ c.in-Serve.is (c.open_and_serve.ensures.unopened tells output nothing)
-
-pub returns-in-Serve-clause-told_of_damage : goal.returns-in-Serve-clause-told_of_damage
-returns-in-Serve-clause-told_of_damage g c d tells damaged = serve_opens c.args.asked _ c.in-Serve.is (c.open_and_serve.ensures.told_of_damage d tells damaged)
+pub returns-in-Serve-clause-ending : goal.returns-in-Serve-clause-ending
+returns-in-Serve-clause-ending g c = serve_opens c.args.asked _ c.in-Serve.is c.open_and_serve.ensures.ending
 
 pub returns-in-Serve-clause-at_ten : goal.returns-in-Serve-clause-at_ten
 returns-in-Serve-clause-at_ten g c ten = absurd (serving_never_ten c.open_and_serve.result c.open_and_serve.ensures.statuses ten)
@@ -72,17 +70,11 @@ pub returns-in-Load-clause-load_statuses : goal.returns-in-Load-clause-load_stat
 returns-in-Load-clause-load_statuses g c =
     at_load c.args.asked c.in-Load.load (λ (load : Load). IsLoading c.open_and_load.result ⊎ (c.open_and_load.result ≡ 8)) _ c.in-Load.is c.open_and_load.ensures.statuses
 
-pub returns-in-Load-clause-unopened : goal.returns-in-Load-clause-unopened
-returns-in-Load-clause-unopened g c tells output nothing = load_opens c.args.asked c.in-Load.load _ c.in-Load.is (c.open_and_load.ensures.unopened tells output nothing)
-
-pub returns-in-Load-clause-told_of_damage : goal.returns-in-Load-clause-told_of_damage
-returns-in-Load-clause-told_of_damage g c d tells damaged = load_opens c.args.asked c.in-Load.load _ c.in-Load.is (c.open_and_load.ensures.told_of_damage d tells damaged)
+pub returns-in-Load-clause-ending : goal.returns-in-Load-clause-ending
+returns-in-Load-clause-ending g c = load_opens c.args.asked c.in-Load.load _ c.in-Load.is c.open_and_load.ensures.ending
 
 pub returns-in-Load-clause-only_at_no_store : goal.returns-in-Load-clause-only_at_no_store
 returns-in-Load-clause-only_at_no_store g c tells eight = load_opens_so c.args.asked c.in-Load.load _ c.in-Load.is (c.open_and_load.ensures.only_at_no_store tells eight)
-
-pub returns-in-Load-clause-told_of_no_store : goal.returns-in-Load-clause-told_of_no_store
-returns-in-Load-clause-told_of_no_store g c tells none = load_opens c.args.asked c.in-Load.load _ c.in-Load.is (c.open_and_load.ensures.told_of_no_store tells none)
 
 pub returns-in-Load-clause-only_at_damage : goal.returns-in-Load-clause-only_at_damage
 returns-in-Load-clause-only_at_damage g c tells input output five = elim (c.open_and_load.ensures.only_at_damage tells output five) [
@@ -129,14 +121,8 @@ returns-in-Settings-clause-at_eight g c tells eight =
     let old = g.W.Disk.world c.args.out.now in
     settings_reset c.args.asked c.in-Settings.settings (λ (n : NewNumbers). TellsWhich (IsTrue g.W.Outside.tells_output) n old.seen.held old (g.W.Disk.world c.open_and_reset.new.out)) _ c.in-Settings.is (c.open_and_reset.ensures.at_eight tells eight)
 
-pub returns-in-Settings-clause-unopened : goal.returns-in-Settings-clause-unopened
-returns-in-Settings-clause-unopened g c tells output nothing = settings_opens c.args.asked c.in-Settings.settings _ c.in-Settings.is (c.open_and_reset.ensures.unopened tells output nothing)
-
-pub returns-in-Settings-clause-told_of_damage : goal.returns-in-Settings-clause-told_of_damage
-returns-in-Settings-clause-told_of_damage g c d tells damaged = settings_opens c.args.asked c.in-Settings.settings _ c.in-Settings.is (c.open_and_reset.ensures.told_of_damage d tells damaged)
-
-pub returns-in-Settings-clause-told_of_no_store : goal.returns-in-Settings-clause-told_of_no_store
-returns-in-Settings-clause-told_of_no_store g c tells none = settings_opens c.args.asked c.in-Settings.settings _ c.in-Settings.is (c.open_and_reset.ensures.told_of_no_store tells none)
+pub returns-in-Settings-clause-ending : goal.returns-in-Settings-clause-ending
+returns-in-Settings-clause-ending g c = settings_opens c.args.asked c.in-Settings.settings _ c.in-Settings.is c.open_and_reset.ensures.ending
 
 pub returns-in-Settings-clause-only_at_no_store : goal.returns-in-Settings-clause-only_at_no_store
 returns-in-Settings-clause-only_at_no_store g c tells eight =
@@ -191,14 +177,8 @@ returns-in-Grow-clause-at_eight g c tells eight =
     let old = g.W.Disk.world c.args.out.now in
     grow_reset c.args.asked c.in-Grow.pages (λ (n : NewNumbers). TellsWhich (IsTrue g.W.Outside.tells_output) n old.seen.held old (g.W.Disk.world c.open_and_reset-in-Grow.new.out)) _ c.in-Grow.is (c.open_and_reset-in-Grow.ensures.at_eight tells eight)
 
-pub returns-in-Grow-clause-unopened : goal.returns-in-Grow-clause-unopened
-returns-in-Grow-clause-unopened g c tells output nothing = grow_opens c.args.asked c.in-Grow.pages _ c.in-Grow.is (c.open_and_reset-in-Grow.ensures.unopened tells output nothing)
-
-pub returns-in-Grow-clause-told_of_damage : goal.returns-in-Grow-clause-told_of_damage
-returns-in-Grow-clause-told_of_damage g c d tells damaged = grow_opens c.args.asked c.in-Grow.pages _ c.in-Grow.is (c.open_and_reset-in-Grow.ensures.told_of_damage d tells damaged)
-
-pub returns-in-Grow-clause-told_of_no_store : goal.returns-in-Grow-clause-told_of_no_store
-returns-in-Grow-clause-told_of_no_store g c tells none = grow_opens c.args.asked c.in-Grow.pages _ c.in-Grow.is (c.open_and_reset-in-Grow.ensures.told_of_no_store tells none)
+pub returns-in-Grow-clause-ending : goal.returns-in-Grow-clause-ending
+returns-in-Grow-clause-ending g c = grow_opens c.args.asked c.in-Grow.pages _ c.in-Grow.is c.open_and_reset-in-Grow.ensures.ending
 
 pub returns-in-Grow-clause-only_at_no_store : goal.returns-in-Grow-clause-only_at_no_store
 returns-in-Grow-clause-only_at_no_store g c tells eight = grow_opens_so c.args.asked c.in-Grow.pages _ c.in-Grow.is
@@ -278,11 +258,18 @@ returns-in-Memory-clause-told_of_bad_settings g c = memory_bad c.args.asked _ _ 
 pub returns-in-Memory-clause-told_of_help : goal.returns-in-Memory-clause-told_of_help
 returns-in-Memory-clause-told_of_help g c = memory_help c.args.asked _ c.in-Memory.is (inr c.last_line.ensures.ends)
 
-pub returns-in-Memory-clause-unopened : goal.returns-in-Memory-clause-unopened
-returns-in-Memory-clause-unopened g c tells output nothing =
-    memory_opens c.args.asked _ c.in-Memory.is
-    (unserved (IsOpeningText g.F.RangeFilter.spelling g.F.RangeFilter.first_fault (g.W.Disk.world c.args.out.now).seen.held) (g.W.Disk.world c.args.out.now) (g.W.Disk.world c.last_line.new.out) (g.met.W.Outside.said_now c.args.out.now) c.last_line.ensures.moves c.last_line.result 7 (text_of Memory) (inl (inr (refl, refl)))
-    (c.last_line.ensures.prefix output) (c.last_line.ensures.said output tt) c.last_line.ensures.ends)
+pub returns-in-Memory-clause-ending : goal.returns-in-Memory-clause-ending
+returns-in-Memory-clause-ending g c =
+    let old = g.W.Disk.world c.args.out.now in
+    let new = g.W.Disk.world c.last_line.new.out in
+    let status : (c.last_line.result ≡ 6) ⊎ (c.last_line.result ≡ 7) = elim c.last_line.ensures.ends [ inl seven ↦ inr seven | inr six ↦ inl six.0 ] in
+    memory_opens c.args.asked (OpeningEnds g.F.RangeFilter.spelling g.F.RangeFilter.first_fault g.W.Disk.tells g.W.Outside.tells_output c.last_line.result old new) c.in-Memory.is record {
+      unopened = λ tells output nothing.
+          unserved (IsOpeningText g.F.RangeFilter.spelling g.F.RangeFilter.first_fault old.seen.held) old new (g.met.W.Outside.said_now c.args.out.now) c.last_line.ensures.moves c.last_line.result 7 (text_of Memory) (inl (inr (refl, refl)))
+          (c.last_line.ensures.prefix output) (c.last_line.ensures.said output tt) c.last_line.ensures.ends;
+      told_of_damage = λ d tells damaged. inr (inr status);
+      told_of_no_store = λ tells none. inr (inr status);
+    }
 
 pub returns-in-Memory-clause-helped : goal.returns-in-Memory-clause-helped
 returns-in-Memory-clause-helped g c output =
@@ -371,3 +358,51 @@ returns-in-Grow-clause-within g c v tells is = grow_opens c.args.asked c.in-Grow
 pub returns-in-Memory-clause-within : goal.returns-in-Memory-clause-within
 returns-in-Memory-clause-within g c v tells is =
     memory_opens c.args.asked _ c.in-Memory.is (within_say _ (g.W.Disk.world c.args.out.now) (g.W.Disk.world c.last_line.new.out) c.last_line.ensures.moves)
+
+-- ---- a check
+
+pub returns-in-Check-clause-check : goal.returns-in-Check-clause-check
+returns-in-Check-clause-check g c = at_check c.args.asked _ c.in-Check.is c.run_check.ensures
+
+pub returns-in-Check-clause-at_twelve : goal.returns-in-Check-clause-at_twelve
+returns-in-Check-clause-at_twelve g c twelve = check_is_asked c.args.asked c.in-Check.is
+
+pub returns-in-Check-clause-counts : goal.returns-in-Check-clause-counts
+returns-in-Check-clause-counts g c = c.run_check.ensures.changes.counts
+
+pub returns-in-Check-clause-causes : goal.returns-in-Check-clause-causes
+returns-in-Check-clause-causes g c = record {
+  taking = λ three. absurd (checking_never_three c.run_check.result c.run_check.ensures.statuses three);
+  device = λ four. inl (c.run_check.ensures.reads four);
+  saying = c.run_check.ensures.saying;
+}
+
+pub returns-in-Check-clause-only_at_wrong_words : goal.returns-in-Check-clause-only_at_wrong_words
+returns-in-Check-clause-only_at_wrong_words g c two = absurd (checking_never_two c.run_check.result c.run_check.ensures.statuses two)
+
+pub returns-in-Check-clause-only_at_damage : goal.returns-in-Check-clause-only_at_damage
+returns-in-Check-clause-only_at_damage g c tells input output five = absurd (checking_never_five c.run_check.result c.run_check.ensures.statuses five)
+
+pub returns-in-Check-clause-at_ten : goal.returns-in-Check-clause-at_ten
+returns-in-Check-clause-at_ten g c ten = absurd (checking_never_ten c.run_check.result c.run_check.ensures.statuses ten)
+
+pub returns-in-Check-clause-statuses : goal.returns-in-Check-clause-statuses
+returns-in-Check-clause-statuses g c = check_as_statuses c.run_check.result c.run_check.ensures.statuses
+
+pub returns-in-Serve-clause-at_twelve : goal.returns-in-Serve-clause-at_twelve
+returns-in-Serve-clause-at_twelve g c twelve = absurd (serving_never_twelve c.open_and_serve.result c.open_and_serve.ensures.statuses twelve)
+
+pub returns-in-Load-clause-at_twelve : goal.returns-in-Load-clause-at_twelve
+returns-in-Load-clause-at_twelve g c twelve = absurd (loading_never_twelve c.open_and_load.result c.open_and_load.ensures.statuses twelve)
+
+pub returns-in-Settings-clause-at_twelve : goal.returns-in-Settings-clause-at_twelve
+returns-in-Settings-clause-at_twelve g c twelve = absurd (reset_never_twelve c.open_and_reset.result c.open_and_reset.ensures.statuses twelve)
+
+pub returns-in-Grow-clause-at_twelve : goal.returns-in-Grow-clause-at_twelve
+returns-in-Grow-clause-at_twelve g c twelve = absurd (reset_never_twelve c.open_and_reset-in-Grow.result c.open_and_reset-in-Grow.ensures.statuses twelve)
+
+pub returns-in-Memory-clause-check : goal.returns-in-Memory-clause-check
+returns-in-Memory-clause-check g c =
+    memory_check c.args.asked _ c.in-Memory.is
+    (memory_ends g.F.RangeFilter.spelling g.F.RangeFilter.first_fault g.met.F.RangeFilter.spells_one g.W.Disk.tells g.W.Outside.tells_output c.last_line.result (g.W.Disk.world c.args.out.now) (g.W.Disk.world c.last_line.new.out)
+    (record { whole = λ told. c.last_line.ensures.said told tt; prefix = c.last_line.ensures.prefix; ends = c.last_line.ensures.ends; moves = c.last_line.ensures.moves }))

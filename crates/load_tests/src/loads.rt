@@ -1,16 +1,16 @@
 //! Loads, and what the next run finds of them.
-use crate::replies::LAST_EPOCH_SUM;
+use crate::asserts::{check_same, check_same_at, check_that, check_that_at};
 use crate::runs::{
     Ended, base_disk, boxed, calls_of, check, commanded, disk_of, failing, formatted, left_behind,
     lost, opened, outside, ran, served, written,
 };
-use crate::slices::four_tables;
 use disk_mem::MemDisk;
 use disk_trait::Disk;
 use outside::MemOutside;
 use std::alloc::Global;
 use std::process::Abort;
 use std::test::Fail;
+use test_runs::{LAST_EPOCH_SUM, four_tables};
 
 const ONE_STEP: &[u8] = b"load steps 1 refused 0 live 1 sum 6c576fac43fd007c\n";
 
@@ -38,7 +38,7 @@ fn one_step_of_two_seeds(rt: HostRuntime) -> Result<(), Fail> {
     Ok(())
 }
 
-const USAGE: &[u8] = b"usage: surfstore PATH format|serve|load|settings|grow\n";
+const USAGE: &[u8] = b"usage: surfstore PATH format|serve|load|settings|grow|check\n";
 
 // Words over a device without a store, the status, and the line that is said.
 const WORDS: [(&str, u8, &[u8]); 7] = [
@@ -58,7 +58,7 @@ fn words_of_no_load(rt: HostRuntime) -> Result<(), Fail> {
     for (number, (words, status, line)) in WORDS.iter().copied().enumerate() {
         let end = commanded(alloc, words, disk_of(alloc, b"")?)?;
         check(&rt, &end, status, line, number as u64);
-        assert!(rt; number == 4 || end.disk.calls() == 0, "{words}");
+        check_that_at(&rt, &words, number == 4 || end.disk.calls() == 0);
     }
     Ok(())
 }
@@ -156,13 +156,15 @@ fn a_fault_at_a_step_leaves_the_steps_before(rt: HostRuntime) -> Result<(), Fail
         let end = commanded(alloc, "load --seed 1 --count 3", disk)?;
         check(&rt, &end, 4, b"device\n", call);
         let steps = call as usize / 4;
-        assert!(rt;
+        check_that_at(
+            &rt,
+            &call,
             holds(alloc, lost(alloc, &end.disk)?, steps, false)?,
-            "call {call}"
         );
-        assert!(rt;
+        check_that_at(
+            &rt,
+            &call,
             holds(alloc, written(alloc, &end.disk)?, steps, true)?,
-            "call {call}"
         );
     }
     Ok(())
@@ -239,9 +241,9 @@ fn a_line_that_cannot_be_said_ends_with_6(rt: HostRuntime) -> Result<(), Fail> {
     let alloc = rt.alloc();
     for say in 0..6 {
         let end = cut_off(alloc, say)?;
-        assert_eq!(rt; end.status, 6, "say {say}");
-        assert_eq!(rt; end.said.len() as u64, say * 10);
-        assert!(rt; ONE_STEP.starts_with(end.said.as_slice()));
+        check_same_at(&rt, &say, &end.status, &6);
+        check_same(&rt, &(end.said.len() as u64), &(say * 10));
+        check_that(&rt, ONE_STEP.starts_with(end.said.as_slice()));
         let again = served(alloc, lost(alloc, &end.disk)?, b"get 6c576f\n")?;
         check(&rt, &again, 0, b"val 7c00fd43ac6f576c\n", say);
     }

@@ -2,13 +2,14 @@
 //!
 //! The gate plays them with all the memory that they ask for. `tools/refuse-allocations` plays them once for each allocation,
 //! with that one refused. Where it is the test's own, the test ends with an error and no failed assertion.
+use crate::asserts::{check_that, check_that_at};
 use crate::faults::{GETS, SCRIPT};
-use crate::formats::stands;
 use crate::runs::{Ended, commanded, disk_of, served, stopped};
 use disk_mem::MemDisk;
 use std::alloc::{AllocError, Global};
 use std::test::Fail;
 use test_kit::is_not_the_last;
+use test_runs::stands;
 
 const MEMORY: &[u8] = b"memory\n";
 
@@ -152,11 +153,11 @@ fn each_allocation_may_be_refused(rt: HostRuntime) -> Result<(), Fail> {
     let first = run_over(alloc, "format --pages 512 --variant base", b"")?;
     // at 6 the output in memory had no room for the last line, and the store is there
     if first.status == 0 || first.status == 6 {
-        assert!(rt; is_played_by_rule(alloc, &first)?);
+        check_that(&rt, is_played_by_rule(alloc, &first)?);
     } else {
-        assert!(rt; leaves_no_store(alloc, &first)?);
+        check_that(&rt, leaves_no_store(alloc, &first)?);
     }
-    assert!(rt; is_not_the_last(alloc), "the last allocation");
+    check_that_at(&rt, &"the last allocation", is_not_the_last(alloc));
     Ok(())
 }
 
@@ -190,9 +191,9 @@ fn is_loaded(alloc: Global, first: &Ended) -> Result<bool, Fail> {
 fn each_allocation_of_a_load_may_be_refused(rt: HostRuntime) -> Result<(), Fail> {
     let alloc = rt.alloc();
     if let Some(first) = four_tables(alloc)? {
-        assert!(rt; is_loaded(alloc, &first)?);
+        check_that(&rt, is_loaded(alloc, &first)?);
     }
-    assert!(rt; is_not_the_last(alloc), "the last allocation");
+    check_that_at(&rt, &"the last allocation", is_not_the_last(alloc));
     Ok(())
 }
 
@@ -246,10 +247,10 @@ fn each_allocation_of_new_numbers_may_be_refused(rt: HostRuntime) -> Result<(), 
     let first = run_over(alloc, "format --pages 512 --variant base", b"")?;
     if first.status == 0 {
         for (words, line, numbers) in NUMBERS {
-            assert!(rt; is_set(alloc, &first, words, line, numbers)?, "{words}");
-            assert!(rt; is_unsaid(alloc, &first, words)?, "{words}");
+            check_that_at(&rt, &words, is_set(alloc, &first, words, line, numbers)?);
+            check_that_at(&rt, &words, is_unsaid(alloc, &first, words)?);
         }
     }
-    assert!(rt; is_not_the_last(alloc), "the last allocation");
+    check_that_at(&rt, &"the last allocation", is_not_the_last(alloc));
     Ok(())
 }

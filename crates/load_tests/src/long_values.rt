@@ -1,5 +1,5 @@
 //! Values that are too long for the log, in whole runs.
-use crate::faults::{Left, left_by};
+use crate::asserts::{check_same_at, check_that, check_that_at};
 use crate::runs::{
     Ended, base_disk, check, disk_of, failing, formatted, left_behind, lost, paced, served,
 };
@@ -10,6 +10,7 @@ use plain_store::{Reply, Request, State, ask};
 use std::alloc::{AllocError, Global};
 use std::test::Fail;
 use test_kit::Numbers;
+use test_runs::{Left, left_by};
 
 // The longest value, and one byte more than the log takes.
 const LONGEST: usize = 1_048_576;
@@ -146,38 +147,45 @@ fn each_call_fails_well(alloc: Global, left: Left) -> Result<bool, Fail> {
 
 #[test]
 fn calls_of_a_long_put_fail_and_their_writes_are_whole(rt: HostRuntime) -> Result<(), Fail> {
-    assert!(rt; each_call_fails_well(rt.alloc(), Left::Whole)?);
+    check_that(&rt, each_call_fails_well(rt.alloc(), Left::Whole)?);
     Ok(())
 }
 
 #[test]
 fn calls_of_a_long_put_fail_and_their_writes_are_lost(rt: HostRuntime) -> Result<(), Fail> {
-    assert!(rt; each_call_fails_well(rt.alloc(), Left::Lost)?);
+    check_that(&rt, each_call_fails_well(rt.alloc(), Left::Lost)?);
     Ok(())
 }
 
 #[test]
 fn calls_of_a_long_put_fail_and_their_writes_are_sevens(rt: HostRuntime) -> Result<(), Fail> {
-    assert!(rt; each_call_fails_well(rt.alloc(), Left::Sevens)?);
+    check_that(&rt, each_call_fails_well(rt.alloc(), Left::Sevens)?);
     Ok(())
 }
 
-// Stopped at each byte that is said, of six.
+// Whether the next run finds so many puts whatever a crash leaves.
+fn last(alloc: Global, disk: &MemDisk, puts: usize) -> Result<bool, Fail> {
+    for left in [Left::Whole, Left::Lost, Left::Sevens] {
+        let disk = left_by(alloc, disk, left)?;
+        if !finds(alloc, &disk, puts)? {
+            return Ok(false);
+        }
+    }
+    Ok(true)
+}
+
+// Stopped at each byte that is said, of thirteen: a put lasts before the first byte of its reply, and the next is not begun.
 #[test]
 fn what_is_said_of_a_long_put_lasts(rt: HostRuntime) -> Result<(), Fail> {
     let alloc = rt.alloc();
     let first = base_disk(alloc)?;
-    let lines = script(alloc)?;
-    for say in 0..6 {
+    let mut lines = script(alloc)?;
+    lines.extend_from_slice(b"get 61\n")?;
+    for say in 0..13 {
         let end = paced(alloc, &first, &lines, &[], &[say], 1)?;
-        assert_eq!(rt; end.status, 6, "say {say}");
-        let puts = 1 + usize::from(say >= 3);
-        for left in [Left::Whole, Left::Lost] {
-            let disk = left_by(alloc, &end.disk, left)?;
-            let least = finds(alloc, &disk, puts)?;
-            let more = finds(alloc, &disk, puts.saturating_add(1))?;
-            assert!(rt; least || more, "say {say}");
-        }
+        check_same_at(&rt, &say, &end.status, &6);
+        let puts = if say < 3 { 1 } else { 2 };
+        check_that_at(&rt, &say, last(alloc, &end.disk, puts)?);
     }
     Ok(())
 }
@@ -215,39 +223,72 @@ const BASE: Settings = Settings {
     ratio: 64,
 };
 
-// The reply as text; a value by its length alone.
+// A value of bytes 00 and bytes 77 after them, in hex.
+fn push_cut(text: &mut Vec<u8>, value: &[u8]) -> Result<(), AllocError> {
+    let zeros = value.partition_point(|byte| *byte == 0);
+    push_zeros(text, zeros)?;
+    let sevens = value.len().saturating_sub(zeros).saturating_mul(2);
+    let len = text.len().saturating_add(sevens);
+    text.resize(len, b'7')
+}
+
+// The reply to a get that finds such a value.
+fn push_found(text: &mut Vec<u8>, value: &[u8]) -> Result<(), AllocError> {
+    text.extend_from_slice(b"val ")?;
+    push_cut(text, value)?;
+    text.push(b'\n')?;
+    Ok(())
+}
+
+// The reply as text.
 fn push_reply(text: &mut Vec<u8>, reply: &Reply) -> Result<(), AllocError> {
     match reply {
         Reply::Done => text.extend_from_slice(b"ok\n"),
         Reply::Missing => text.extend_from_slice(b"none\n"),
         Reply::Value(value) if value.is_empty() => text.extend_from_slice(b"val -\n"),
-        Reply::Value(value) => push_value(text, value.len()),
+        Reply::Value(value) => push_found(text, value),
         _ => text.extend_from_slice(b"?\n"),
     }
 }
 
-fn zeros_of(alloc: Global, count: usize) -> Result<Vec<u8>, AllocError> {
-    vec![in alloc; 0; count]
+// As many bytes 00 as the longest value has, and as many 77.
+fn text_of(alloc: Global) -> Result<Vec<u8>, AllocError> {
+    let mut text = vec![in alloc; 0; LONGEST]?;
+    text.resize(2 * LONGEST, 0x77)?;
+    Ok(text)
+}
+
+// A value of so many bytes, from a drawn place of a text on.
+fn cut<'a>(numbers: &mut Numbers, text: &'a [u8], size: usize) -> &'a [u8] {
+    let from = numbers.draw_below(LONGEST as u64 + 1).min(LONGEST);
+    text.get(from..from.saturating_add(size)).unwrap_or(b"")
+}
+
+// The line of a put.
+fn push_line(lines: &mut Vec<u8>, key: &[u8], value: &[u8]) -> Result<(), AllocError> {
+    lines.extend_from_slice(b"put ")?;
+    lines.extend_from_slice(key)?;
+    lines.push(b' ')?;
+    if value.is_empty() {
+        lines.push(b'-')?;
+    }
+    push_cut(lines, value)?;
+    lines.push(b'\n')?;
+    Ok(())
 }
 
 // One line, and as a request.
 fn drawn<'a>(
     numbers: &mut Numbers,
     lines: &mut Vec<u8>,
-    zeros: &'a [u8],
+    text: &'a [u8],
 ) -> Result<Request<'a>, AllocError> {
     let (key, word) = KEYS[numbers.draw_below(3).min(2)];
     let verb = numbers.draw_below(8);
     if verb < 4 {
         let size = SIZES[numbers.draw_below(4).min(3)];
-        if size == 0 {
-            lines.extend_from_slice(b"put ")?;
-            lines.extend_from_slice(word)?;
-            lines.extend_from_slice(b" -\n")?;
-        } else {
-            push_put(lines, word, size)?;
-        }
-        let value = zeros.get(..size).unwrap_or(b"");
+        let value = cut(numbers, text, size);
+        push_line(lines, word, value)?;
         return Ok(Request::Put { key, value });
     }
     let (name, request): (&[u8], _) = match verb {
@@ -266,7 +307,7 @@ fn drawn<'a>(
 // The lines of a script, and what a store that is played answers. No merge comes: level 0 has fewer than four tables.
 fn played(alloc: Global, seed: u64) -> Result<(Vec<u8>, Vec<u8>), Fail> {
     let mut numbers = Numbers::new(seed);
-    let zeros = zeros_of(alloc, LONGEST)?;
+    let text = text_of(alloc)?;
     let mut state = State::new(alloc, BASE, 4_096);
     let mut lines = Vec::new(alloc);
     let mut said = Vec::new(alloc);
@@ -274,7 +315,7 @@ fn played(alloc: Global, seed: u64) -> Result<(Vec<u8>, Vec<u8>), Fail> {
         if state.tables.len() >= 3 {
             break;
         }
-        let request = drawn(&mut numbers, &mut lines, &zeros)?;
+        let request = drawn(&mut numbers, &mut lines, &text)?;
         let answer = ask::<PlainFilter>(alloc, &state, request)?;
         push_reply(&mut said, &answer.reply)?;
         state = answer.state;

@@ -1,13 +1,14 @@
 //! Calls, says and takes that fail as a store gets other settings or more pages.
+use crate::asserts::{check_same, check_that, check_that_at};
 use crate::resets::{TWO_PUTS, last_epoch};
 use crate::runs::{
     base_disk, calls_of, check, commanded, disk_of, failing, lost, served, stopped, written,
 };
-use crate::torn::torn_disks;
 use disk_mem::MemDisk;
 use std::alloc::Global;
 use std::process::Abort;
 use std::test::Fail;
+use test_runs::torn_disks;
 
 // New numbers: the words and their line; a growth that tells whether the store has the old pages or the new ones; and what the
 // lines and it are answered by the old numbers, and by the new ones.
@@ -96,18 +97,21 @@ fn each_call_fails_well(rt: &impl Abort, alloc: Global, change: &Change) -> Resu
         let end = commanded(alloc, change.words, failing(alloc, &first.disk, call)?)?;
         if end.status == 0 {
             check(rt, &end, 0, change.line, call);
-            assert!(rt; has_new(alloc, lost(alloc, &end.disk)?, change)? == Some(true));
-            assert_eq!(rt; call, opened.saturating_add(6));
+            check_that(
+                rt,
+                has_new(alloc, lost(alloc, &end.disk)?, change)? == Some(true),
+            );
+            check_same(rt, &call, &opened.saturating_add(6));
             return Ok(());
         }
         check(rt, &end, 4, b"device\n", call);
         if call < opened {
-            assert!(rt; end.disk.bytes() == first.disk.bytes(), "call {call}");
+            check_that_at(rt, &call, end.disk.bytes() == first.disk.bytes());
         } else {
-            assert!(rt; has_either(alloc, &end.disk, change)?, "call {call}");
+            check_that_at(rt, &call, has_either(alloc, &end.disk, change)?);
         }
     }
-    assert!(rt; false, "a call failed each time");
+    check_that_at(rt, &"a call failed each time", false);
     Ok(())
 }
 
@@ -154,7 +158,7 @@ fn each_say_fails_well(
     for say in 0..line.len() {
         let end = stopped(alloc, words, disk, &[], &[say as u64])?;
         check(rt, &end, 6, &line[..say], say as u64);
-        assert!(rt; end.disk.bytes() == whole.disk.bytes(), "{words}");
+        check_that_at(rt, &words, end.disk.bytes() == whole.disk.bytes());
     }
     let untaken = stopped(alloc, words, disk, &[0], &[])?;
     check(rt, &untaken, status, line, 0);

@@ -1,4 +1,5 @@
 //! Random scripts, beside a store that is played in memory.
+use crate::asserts::{check_that, check_that_at};
 use crate::runs::{Ended, Succinct, boxed, failing, formatted, lost, served, served_by, written};
 use disk_mem::MemDisk;
 use filter_api::{RangeFilter, Settings};
@@ -288,16 +289,17 @@ fn reads_are_bounded<F: RangeFilter>(alloc: Global, seed: u64) -> Result<bool, F
 
 #[test]
 fn gets_and_closed_seeks_read_within_their_bounds(rt: HostRuntime) -> Result<(), Fail> {
-    assert!(rt; reads_are_bounded::<Succinct>(rt.alloc(), 5)?);
+    check_that(&rt, reads_are_bounded::<Succinct>(rt.alloc(), 5)?);
     Ok(())
 }
 
 #[test]
 fn replies_are_those_of_the_played_store(rt: HostRuntime) -> Result<(), Fail> {
     for (seed, words) in VARIANTS.iter().copied().enumerate() {
-        assert!(rt;
+        check_that_at(
+            &rt,
+            &words,
             is_played::<Succinct>(rt.alloc(), seed as u64, words)?,
-            "{words}"
         );
     }
     Ok(())
@@ -306,9 +308,10 @@ fn replies_are_those_of_the_played_store(rt: HostRuntime) -> Result<(), Fail> {
 #[test]
 fn replies_over_plain_filters_are_the_same(rt: HostRuntime) -> Result<(), Fail> {
     for (seed, words) in VARIANTS.iter().copied().enumerate() {
-        assert!(rt;
+        check_that_at(
+            &rt,
+            &words,
             is_played::<PlainFilter>(rt.alloc(), seed as u64, words)?,
-            "{words}"
         );
     }
     Ok(())
@@ -340,7 +343,7 @@ fn crashes_at_random_places(rt: HostRuntime) -> Result<(), Fail> {
         let script = drawn(alloc, numbers.draw(), 60, 12)?;
         for _ in 0..4 {
             let call = numbers.draw_below(200) as u64;
-            assert!(rt; outlasts(alloc, &first, &script, call)?, "call {call}");
+            check_that_at(&rt, &call, outlasts(alloc, &first, &script, call)?);
         }
     }
     Ok(())

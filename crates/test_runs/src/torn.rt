@@ -1,9 +1,9 @@
 //! Writes that no sync followed, of which a crash leaves 07 in the place of each byte.
-use crate::faults::{has_all, interrupted, is_told};
-use crate::runs::{Ended, Succinct, base_disk, boxed, lost};
+use crate::runs::lost;
 use disk_mem::{Choice, MemDisk};
 use std::alloc::{AllocError, Global};
 use std::test::Fail;
+use test_kit::boxed;
 
 // How many bytes the script's writes have: a gate; the record of a delete and that of a put, each with the gate after it; a body of
 // the manifest with no table, one and two; the blocks, the index or the filter of a table.
@@ -85,33 +85,4 @@ pub fn torn_disks(alloc: Global, disk: &MemDisk) -> Result<Vec<Box<MemDisk>>, Fa
         disks.push(crashed(alloc, disk, left)?)?;
     }
     Ok(disks)
-}
-
-// Whether what was said lasts on each of them.
-fn outlasts(alloc: Global, end: &Ended) -> Result<bool, Fail> {
-    for disk in torn_disks(alloc, &end.disk)? {
-        if !has_all::<Succinct>(alloc, disk, &end.said)? {
-            return Ok(false);
-        }
-    }
-    Ok(true)
-}
-
-// So the pages of a table are torn after their last used bytes too.
-#[test]
-fn calls_fail_and_each_write_is_left_as_sevens(rt: HostRuntime) -> Result<(), Fail> {
-    let alloc = rt.alloc();
-    let first = base_disk(alloc)?;
-    for call in 0..200 {
-        let end = interrupted::<Succinct>(alloc, &first, call)?;
-        assert!(rt; outlasts(alloc, &end)?, "call {call}");
-        if end.status == 0 {
-            assert_eq!(rt; end.disk.starved(), 0);
-            assert!(rt; call > 40);
-            return Ok(());
-        }
-        assert!(rt; is_told(&end), "call {call}");
-    }
-    assert!(rt; false, "it goes on");
-    Ok(())
 }

@@ -1,15 +1,17 @@
 //! Calls that fail, and what the next run finds.
+use crate::asserts::{check_same, check_same_at, check_that, check_that_at};
 use crate::runs::{
     Ended, Succinct, base_disk, calls_of, check, commanded, disk_of, failing, left_behind, lost,
-    opened, paced, served, served_by, written,
+    opened, paced, served, served_by,
 };
 use disk_mem::MemDisk;
 use disk_trait::Disk;
 use filter_api::RangeFilter;
 use plain_filter::PlainFilter;
-use std::alloc::{AllocError, Global};
+use std::alloc::Global;
 use std::test::Fail;
 use store_core::StoreError;
+use test_runs::{Left, left_by, push_large};
 
 /// Lines that put, delete, flush and compact, of which each changes the disk but the last two.
 pub const SCRIPT: &[u8] =
@@ -46,60 +48,6 @@ pub fn has_all<F: RangeFilter>(
     let found = again.said.as_slice();
     let done = oks(said).min(7);
     Ok(found == BEHIND[done] || found == BEHIND[done + 1])
-}
-
-// The first and the last place where two lists of bytes differ, the last one behind its byte.
-fn differing(whole: &[u8], lost: &[u8]) -> (usize, usize) {
-    let mut first = whole.len();
-    let mut last = 0;
-    for (place, byte) in whole.iter().enumerate() {
-        if lost.get(place).copied().unwrap_or(0) != *byte {
-            first = first.min(place);
-            last = place.saturating_add(1);
-        }
-    }
-    (first, last)
-}
-
-// Some bytes, of which those between two places are 07.
-fn with_sevens(
-    alloc: Global,
-    bytes: &[u8],
-    from: usize,
-    to: usize,
-) -> Result<Box<MemDisk>, AllocError> {
-    let mut bytes = Vec::from_slice(alloc, bytes)?;
-    for place in from..to {
-        if let Some(byte) = bytes.get_mut(place) {
-            *byte = 7;
-        }
-    }
-    disk_of(alloc, &bytes)
-}
-
-/// What a crash leaves of the writes that no sync followed.
-#[derive(Clone, Copy)]
-pub enum Left {
-    Whole,
-    Lost,
-    Half,
-    Sevens,
-}
-
-/// The disk as a crash leaves it. Half of a write is its first bytes, and 07 behind them.
-pub fn left_by(alloc: Global, disk: &MemDisk, left: Left) -> Result<Box<MemDisk>, AllocError> {
-    let lost = lost(alloc, disk)?;
-    let whole = written(alloc, disk)?;
-    let (first, last) = differing(whole.bytes(), lost.bytes());
-    match left {
-        Left::Whole => Ok(whole),
-        Left::Lost => Ok(lost),
-        Left::Half => {
-            let middle = first.saturating_add(last.saturating_sub(first) / 2);
-            with_sevens(alloc, whole.bytes(), middle, last)
-        }
-        Left::Sevens => with_sevens(alloc, whole.bytes(), first, last),
-    }
 }
 
 // Whether all of it is there after a run, stopped as a crash leaves it.
@@ -144,26 +92,41 @@ fn each_call_fails_well<F: RangeFilter>(alloc: Global, left: Left) -> Result<boo
 
 #[test]
 fn calls_fail_and_their_writes_are_whole(rt: HostRuntime) -> Result<(), Fail> {
-    assert!(rt; each_call_fails_well::<Succinct>(rt.alloc(), Left::Whole)?);
+    check_that(
+        &rt,
+        each_call_fails_well::<Succinct>(rt.alloc(), Left::Whole)?,
+    );
     Ok(())
 }
 
 #[test]
 fn calls_fail_and_their_writes_are_lost(rt: HostRuntime) -> Result<(), Fail> {
-    assert!(rt; each_call_fails_well::<Succinct>(rt.alloc(), Left::Lost)?);
+    check_that(
+        &rt,
+        each_call_fails_well::<Succinct>(rt.alloc(), Left::Lost)?,
+    );
     Ok(())
 }
 
 #[test]
 fn calls_fail_and_their_writes_are_half(rt: HostRuntime) -> Result<(), Fail> {
-    assert!(rt; each_call_fails_well::<Succinct>(rt.alloc(), Left::Half)?);
+    check_that(
+        &rt,
+        each_call_fails_well::<Succinct>(rt.alloc(), Left::Half)?,
+    );
     Ok(())
 }
 
 #[test]
 fn calls_fail_over_plain_filters(rt: HostRuntime) -> Result<(), Fail> {
-    assert!(rt; each_call_fails_well::<PlainFilter>(rt.alloc(), Left::Lost)?);
-    assert!(rt; each_call_fails_well::<PlainFilter>(rt.alloc(), Left::Sevens)?);
+    check_that(
+        &rt,
+        each_call_fails_well::<PlainFilter>(rt.alloc(), Left::Lost)?,
+    );
+    check_that(
+        &rt,
+        each_call_fails_well::<PlainFilter>(rt.alloc(), Left::Sevens)?,
+    );
     Ok(())
 }
 
@@ -181,20 +144,8 @@ fn a_flush_that_is_stopped_leaves_no_table(rt: HostRuntime) -> Result<(), Fail> 
         let again = served(alloc, lost(alloc, &end.disk)?, lines)?;
         let found = b"val 62\nval 63\nnone\ntables 0 admitted 0 blocks 0\n";
         check(&rt, &again, 0, found, call);
-        assert_eq!(rt; again.disk.reads(), 5, "call {call}");
+        check_same_at(&rt, &call, &again.disk.reads(), &5);
     }
-    Ok(())
-}
-
-/// The line of a put of one key, with a value of 3,000 bytes: no block holds two of them.
-pub fn push_large(lines: &mut Vec<u8>, key: &[u8]) -> Result<(), AllocError> {
-    lines.extend_from_slice(b"put ")?;
-    lines.extend_from_slice(key)?;
-    lines.push(b' ')?;
-    for _ in 0..3_000 {
-        lines.extend_from_slice(b"78")?;
-    }
-    lines.push(b'\n')?;
     Ok(())
 }
 
@@ -221,9 +172,9 @@ fn a_range_says_the_pairs_before_a_fault(rt: HostRuntime) -> Result<(), Fail> {
     for block in 0..3 {
         let disk = failing(alloc, &first, (calls as u64).saturating_add(block))?;
         let end = served(alloc, disk, b"range - - 3\nrange - 7a 3\nget 61\n")?;
-        assert_eq!(rt; end.status, 4, "block {block}");
-        assert!(rt; end.said.ends_with(b"device\n"));
-        assert_eq!(rt; pairs(end.said.as_slice()) as u64, block);
+        check_same_at(&rt, &block, &end.status, &4);
+        check_that(&rt, end.said.ends_with(b"device\n"));
+        check_same(&rt, &(pairs(end.said.as_slice()) as u64), &block);
     }
     Ok(())
 }
@@ -234,8 +185,8 @@ fn a_range_of_two_reads_two_blocks(rt: HostRuntime) -> Result<(), Fail> {
     let first = three_blocks(alloc)?;
     let calls = calls_of(alloc, &first, b"")?;
     let end = served(alloc, first, b"range 61 7a 2\n")?;
-    assert!(rt; end.said.ends_with(b"\nend 2\n"));
-    assert_eq!(rt; end.disk.calls(), calls.saturating_add(2));
+    check_that(&rt, end.said.ends_with(b"\nend 2\n"));
+    check_same(&rt, &end.disk.calls(), &calls.saturating_add(2));
     Ok(())
 }
 
@@ -246,10 +197,10 @@ fn a_range_says_the_pairs_before_damage(rt: HostRuntime) -> Result<(), Fail> {
     let mut disk = three_blocks(alloc)?;
     disk.write(791_528, &[7])?;
     let end = served(alloc, disk, b"range - 7a 3\nget 61\n")?;
-    assert_eq!(rt; end.status, 5);
-    assert_eq!(rt; pairs(end.said.as_slice()), 1);
+    check_same(&rt, &end.status, &5);
+    check_same(&rt, &pairs(end.said.as_slice()), &1);
     let behind = end.said.get(6_007..).unwrap_or(b"");
-    assert!(rt; behind.starts_with(b"damaged block 790528 sum "));
+    check_that(&rt, behind.starts_with(b"damaged block 790528 sum "));
     Ok(())
 }
 
@@ -260,14 +211,18 @@ fn a_put_behind_a_failed_sync_is_stopped(rt: HostRuntime) -> Result<(), Fail> {
     let first = base_disk(alloc)?;
     let mut disk = failing(alloc, &first, 7)?;
     let mut store = opened(alloc, &mut disk)?;
-    assert!(rt;
+    check_that(
+        &rt,
         matches!(
             store.put(&mut *disk, b"a", b"b"),
             Err(StoreError::Device(_))
-        )
+        ),
     );
-    assert!(rt; store.put(&mut *disk, b"c", b"d") == Err(StoreError::Stopped));
-    assert_eq!(rt; disk.calls(), 8);
+    check_that(
+        &rt,
+        store.put(&mut *disk, b"c", b"d") == Err(StoreError::Stopped),
+    );
+    check_same(&rt, &disk.calls(), &8);
     Ok(())
 }
 
@@ -277,9 +232,9 @@ fn each_say_of_a_byte_failing_in_turn(rt: HostRuntime) -> Result<(), Fail> {
     let first = base_disk(alloc)?;
     for say in 0..32 {
         let end = paced(alloc, &first, SCRIPT, &[], &[say], 1)?;
-        assert_eq!(rt; end.status, 6);
-        assert_eq!(rt; end.said.len() as u64, say);
-        assert!(rt; outlasts::<Succinct>(alloc, &end, Left::Lost)?, "say {say}");
+        check_same(&rt, &end.status, &6);
+        check_same(&rt, &(end.said.len() as u64), &say);
+        check_that_at(&rt, &say, outlasts::<Succinct>(alloc, &end, Left::Lost)?);
     }
     Ok(())
 }
@@ -290,10 +245,10 @@ fn each_say_of_a_reply_failing_in_turn(rt: HostRuntime) -> Result<(), Fail> {
     let first = base_disk(alloc)?;
     for say in 0..9 {
         let end = paced(alloc, &first, SCRIPT, &[], &[say], SCRIPT.len())?;
-        assert_eq!(rt; end.status, 6);
+        check_same(&rt, &end.status, &6);
         let replies = end.said.iter().filter(|byte| **byte == b'\n').count();
-        assert_eq!(rt; replies as u64, say);
-        assert!(rt; outlasts::<Succinct>(alloc, &end, Left::Lost)?, "say {say}");
+        check_same(&rt, &(replies as u64), &say);
+        check_that_at(&rt, &say, outlasts::<Succinct>(alloc, &end, Left::Lost)?);
     }
     Ok(())
 }
@@ -304,11 +259,8 @@ fn each_take_failing_in_turn(rt: HostRuntime) -> Result<(), Fail> {
     let first = base_disk(alloc)?;
     for take in 0..69 {
         let end = paced(alloc, &first, SCRIPT, &[take], &[], 1)?;
-        assert_eq!(rt; end.status, 3);
-        assert!(rt;
-            outlasts::<Succinct>(alloc, &end, Left::Lost)?,
-            "take {take}"
-        );
+        check_same(&rt, &end.status, &3);
+        check_that_at(&rt, &take, outlasts::<Succinct>(alloc, &end, Left::Lost)?);
     }
     let whole = paced(alloc, &first, SCRIPT, &[0], &[], SCRIPT.len())?;
     check(&rt, &whole, 3, b"", 0);

@@ -1,4 +1,5 @@
 //! What lasts at each moment of a run, and takes that a run does not make.
+use crate::asserts::{check_same, check_same_at, check_that_at};
 use crate::runs::{Ended, base_disk, boxed, check, failing, lost, paced, served, written};
 use disk_mem::{Choice, MemDisk};
 use std::alloc::{AllocError, Global};
@@ -60,9 +61,9 @@ fn what_is_said_lasts_from_its_first_byte(rt: HostRuntime) -> Result<(), Fail> {
     let first = base_disk(alloc)?;
     for say in 0..13 {
         let end = paced(alloc, &first, LINES, &[], &[say], 1)?;
-        assert_eq!(rt; end.status, 6, "say {say}");
-        assert_eq!(rt; end.said.len() as u64, say);
-        assert!(rt; lasts(alloc, &end)?, "say {say}");
+        check_same_at(&rt, &say, &end.status, &6);
+        check_same(&rt, &(end.said.len() as u64), &say);
+        check_that_at(&rt, &say, lasts(alloc, &end)?);
     }
     Ok(())
 }
@@ -75,12 +76,12 @@ fn what_is_said_outlasts_each_call(rt: HostRuntime) -> Result<(), Fail> {
     for call in 0..100 {
         let end = served(alloc, failing(alloc, &first, call)?, LINES)?;
         if end.status == 0 {
-            assert!(rt; call > 12, "call {call}");
+            check_that_at(&rt, &call, call > 12);
             return Ok(());
         }
-        assert!(rt; lasts(alloc, &end)?, "call {call}");
+        check_that_at(&rt, &call, lasts(alloc, &end)?);
     }
-    assert!(rt; false, "it goes on");
+    check_that_at(&rt, &"it goes on", false);
     Ok(())
 }
 

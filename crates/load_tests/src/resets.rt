@@ -1,14 +1,14 @@
 //! Other settings for new tables, and more pages.
-use crate::formats::{format_1, stands};
-use crate::replies::LAST_EPOCH_SUM;
+use crate::asserts::{check_same, check_same_at, check_that, check_that_at};
 use crate::runs::{base_disk, check, commanded, disk_of, opened, served};
 use disk_mem::MemDisk;
 use disk_trait::Disk;
 use std::alloc::Global;
 use std::process::Abort;
 use std::test::Fail;
+use test_runs::{LAST_EPOCH_SUM, format_1, stands};
 
-const USAGE: &[u8] = b"usage: surfstore PATH format|serve|load|settings|grow\n";
+const USAGE: &[u8] = b"usage: surfstore PATH format|serve|load|settings|grow|check\n";
 
 /// Lines that make a table of two keys.
 pub const TWO_PUTS: &[u8] = b"put 616131 01\nput 616231 02\nflush\n";
@@ -72,13 +72,18 @@ fn words_of_new_numbers(rt: HostRuntime) -> Result<(), Fail> {
     for (number, (words, empty, line, status, said)) in WORDS.iter().copied().enumerate() {
         let none = commanded(alloc, words, disk_of(alloc, b"")?)?;
         check(&rt, &none, empty, line, number as u64);
-        assert!(rt; none.disk.bytes().is_empty(), "{words}");
+        check_that_at(&rt, &words, none.disk.bytes().is_empty());
         let there = commanded(alloc, words, disk_of(alloc, first.bytes())?)?;
         check(&rt, &there, status, said, number as u64);
-        assert_eq!(rt; there.disk.bytes() == first.bytes(), status != 0, "{words}");
+        check_same_at(
+            &rt,
+            &words,
+            &(there.disk.bytes() == first.bytes()),
+            &(status != 0),
+        );
         let untried = status == 2
             || said.starts_with(b"bad settings") && words.starts_with("settings");
-        assert_eq!(rt; there.disk.calls() == 0, untried, "{words}");
+        check_same_at(&rt, &words, &(there.disk.calls() == 0), &untried);
     }
     Ok(())
 }
@@ -91,24 +96,32 @@ fn new_tables_get_other_settings(rt: HostRuntime) -> Result<(), Fail> {
     let first = served(alloc, base_disk(alloc)?, TWO_PUTS)?;
     let set = commanded(alloc, "settings --variant hash", first.disk)?;
     check(&rt, &set, 0, b"settings 8 0 64\n", 0);
-    assert!(rt; stands(&set.disk, 0, b"\x01"));
-    assert!(rt;
+    check_that(&rt, stands(&set.disk, 0, b"\x01"));
+    check_that(
+        &rt,
         stands(
             &set.disk,
             8,
-            b"SRFM\x02\x00\x01\x00\x03\x00\x00\x00\x00\x00\x00\x00\x00\x02\x00\x00\x08\x00@\x00\x80\x00\x00\x00@"
-        )
+            b"SRFM\x02\x00\x01\x00\x03\x00\x00\x00\x00\x00\x00\x00\x00\x02\x00\x00\x08\x00@\x00\x80\x00\x00\x00@",
+        ),
     );
-    assert!(rt;
+    check_that(
+        &rt,
         stands(
             &set.disk,
             128,
-            b"\x00\x00@\x00\x00\x00\x00\x00\xfe\x6d\xf4\xf5\x8b\xbe\x86\xc3"
-        )
+            b"\x00\x00@\x00\x00\x00\x00\x00\xfe\x6d\xf4\xf5\x8b\xbe\x86\xc3",
+        ),
     );
-    assert!(rt; stands(&set.disk, 131_072, b"\x01"));
-    assert!(rt; stands(&set.disk, 131_088, b"\x02\x00\x00\x00\x00\x00\x00\x00"));
-    assert!(rt; stands(&set.disk, 131_208, b"\x2f\x4d\x98\xab\x39\x17\xe3\xb5"));
+    check_that(&rt, stands(&set.disk, 131_072, b"\x01"));
+    check_that(
+        &rt,
+        stands(&set.disk, 131_088, b"\x02\x00\x00\x00\x00\x00\x00\x00"),
+    );
+    check_that(
+        &rt,
+        stands(&set.disk, 131_208, b"\x2f\x4d\x98\xab\x39\x17\xe3\xb5"),
+    );
     let lines =
         b"explain 616139\nput 62 01\nflush\nexplain 6239\ncompact\nexplain 616139\nget 616131\nget 62\n";
     let after = served(alloc, set.disk, lines)?;
@@ -129,17 +142,21 @@ fn a_device_of_format_1_gets_other_settings(rt: HostRuntime) -> Result<(), Fail>
         disk_of(alloc, first.bytes())?,
     )?;
     check(&rt, &set, 0, b"settings 0 0 64\n", 0);
-    assert!(rt; stands(&set.disk, 8, b"SRFM\x02\x00\x01\x00\x03"));
-    assert!(rt; stands(&set.disk, 28, b"\x00\x00@\x00\x80\x00\x00\x00@"));
-    assert!(rt;
+    check_that(&rt, stands(&set.disk, 8, b"SRFM\x02\x00\x01\x00\x03"));
+    check_that(
+        &rt,
+        stands(&set.disk, 28, b"\x00\x00@\x00\x80\x00\x00\x00@"),
+    );
+    check_that(
+        &rt,
         stands(
             &set.disk,
             128,
-            b"\x04\x03\x10\x00\x00\x00\x00\x00\x67\x54\x1f\x28\x88\xc3\xd1\x2c"
-        )
+            b"\x04\x03\x10\x00\x00\x00\x00\x00\x67\x54\x1f\x28\x88\xc3\xd1\x2c",
+        ),
     );
     let slot = first.bytes().get(131_072..262_144).unwrap_or(b"");
-    assert!(rt; stands(&set.disk, 131_072, slot));
+    check_that(&rt, stands(&set.disk, 131_072, slot));
     let after = served(
         alloc,
         set.disk,
@@ -152,7 +169,7 @@ fn a_device_of_format_1_gets_other_settings(rt: HostRuntime) -> Result<(), Fail>
         (131_264, b"\x04\x03\x10\x00\x00\x00\x00\x00"),
         (131_272, b"\xe4\x69\xf2\xd1\x61\xb6\xd8\x5f"),
     ] {
-        assert!(rt; stands(&after.disk, place, bytes));
+        check_that(&rt, stands(&after.disk, place, bytes));
     }
     Ok(())
 }
@@ -190,7 +207,12 @@ fn pages_are_in_range(rt: &impl Abort, alloc: Global, full: &MemDisk) -> Result<
     for (number, (words, status, line)) in PAGES.iter().copied().enumerate() {
         let end = commanded(alloc, words, disk_of(alloc, full.bytes())?)?;
         check(rt, &end, status, line, number as u64);
-        assert_eq!(rt; end.disk.bytes() == full.bytes(), status != 0, "{words}");
+        check_same_at(
+            rt,
+            &words,
+            &(end.disk.bytes() == full.bytes()),
+            &(status != 0),
+        );
     }
     Ok(())
 }
@@ -207,7 +229,7 @@ fn a_full_store_grows(rt: HostRuntime) -> Result<(), Fail> {
     let length = full.disk.bytes().len();
     let grown = commanded(alloc, "grow --pages 600", full.disk)?;
     check(&rt, &grown, 0, b"grown 600\n", 1);
-    assert_eq!(rt; grown.disk.bytes().len(), length);
+    check_same(&rt, &grown.disk.bytes().len(), &length);
     let fewer = commanded(alloc, "grow --pages 599", grown.disk)?;
     check(&rt, &fewer, 8, b"bad settings pages\n", 2);
     let put = served(alloc, fewer.disk, &line)?;
@@ -241,7 +263,7 @@ fn the_last_epoch_takes_no_numbers(rt: HostRuntime) -> Result<(), Fail> {
     for (number, (words, status, line)) in rows.iter().copied().enumerate() {
         let end = commanded(alloc, words, disk_of(alloc, disk.bytes())?)?;
         check(&rt, &end, status, line, number as u64);
-        assert!(rt; end.disk.bytes() == disk.bytes(), "{words}");
+        check_that_at(&rt, &words, end.disk.bytes() == disk.bytes());
     }
     Ok(())
 }
