@@ -1,6 +1,6 @@
 //! A cursor: where it starts, what it says of its leaf, and how it goes from leaf to leaf.
-use crate::texts::Texts;
 use anyhow::{Result, bail};
+use bench_keys::Texts;
 use bench_kit::{Figure, Least, ROUNDS, Watch, print_measure};
 use filter_iter::{FilterCursor, least_of};
 use filter_trie::Trie;

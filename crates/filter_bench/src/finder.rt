@@ -1,7 +1,7 @@
 //! What is asked for keys.
 use crate::bloom::Bloom;
 use crate::stubs::StubSearch;
-use crate::texts::Texts;
+use bench_keys::Texts;
 use filter_trie::{Trie, Walk};
 use std::alloc::Global;
 

@@ -2,7 +2,7 @@
 ghost use Rattle.std.specs.Prelude.{◌≤◌, ◌<◌, length};
 ghost use Rattle.filter_model.specs.Trie.{nodes};
 
-use crate::texts::Texts;
+use bench_keys::Texts;
 use filter_trie::Trie;
 use std::alloc::Global;
 

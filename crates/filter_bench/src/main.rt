@@ -21,31 +21,28 @@ mod building;
 mod codes;
 mod cursors;
 mod finder;
-mod keys;
 mod levels;
 mod plain;
 mod race;
 mod ranges;
 mod sizes;
 mod stubs;
-mod texts;
 mod variants;
 
 use anyhow::{Result, bail};
+use bench_keys::{Kind, Texts, draw_absent, draw_keys, sorted, texts_of};
 use bench_kit::{Numbers, Options, read_options};
 use codes::code_rounds;
 use cursors::{cursor_rounds, start_rounds};
 use filter_model::are_keys;
 use filter_trie::Trie;
 use key_base::KeyList;
-use keys::{Kind, draw_absent, draw_keys, sorted, texts_of};
 use plain::plain_round;
 use race::{Finders, race};
 use ranges::{highs, print_full, range_rounds};
 use std::alloc::Global;
 use std::env;
 use std::time::CpuClock;
-use texts::Texts;
 use variants::{Queries, variant_rounds};
 
 const ABOUT: &str = "\
@@ -136,7 +133,7 @@ fn measure_keys(
         cursor_rounds(rt, alloc, &finders.trie)?;
         start_rounds(rt, alloc, &finders.trie, present)?;
     }
-    let absent = draw_absent(alloc, asked.kind, present, keys, &finders.search, numbers)?;
+    let absent = draw_absent(alloc, asked.kind, present, keys, numbers)?;
     ask_finders(rt, alloc, asked, &finders, keys.len(), present, &absent)?;
     if asked.has("variants") {
         ask_variants(rt, alloc, asked, keys, present, &absent)?;

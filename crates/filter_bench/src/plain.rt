@@ -1,8 +1,8 @@
 //! A plain filter of the same keys, which looks at all its leaves for each answer; so it is asked for few keys.
 ghost use Rattle.filter_model.specs.Keys.{IsKeyList};
 
-use crate::texts::Texts;
 use anyhow::{Result, bail};
+use bench_keys::Texts;
 use bench_kit::{Figure, Watch, boxed, print_measure, share};
 use filter_api::{RangeFilter, Settings};
 use key_base::KeyList;

@@ -1,8 +1,7 @@
 //! Ranges, asked beside walks.
 use crate::finder::ask;
-use crate::keys::Kind;
-use crate::texts::Texts;
 use anyhow::{Result, bail};
+use bench_keys::{Kind, Texts};
 use bench_kit::{Figure, Least, ROUNDS, Watch, print_measure, share};
 use filter_iter::{range, seek, tally};
 use filter_trie::Trie;

@@ -1,8 +1,8 @@
 //! A binary search over stubs.
 ghost use Rattle.filter_model.specs.Keys.{IsKeyList};
 
-use crate::texts::Texts;
 use anyhow::Result;
+use bench_keys::Texts;
 use bench_kit::boxed;
 use key_base::KeyList;
 use key_truncate::{Stub, truncate};

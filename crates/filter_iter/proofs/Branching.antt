@@ -10,7 +10,7 @@ use Rattle.filter_iter.proofs.ByNumber.{ahead_more, all_ahead, none_ahead, none_
 use Rattle.filter_iter.proofs.Groups.{start_within}
 use Rattle.filter_iter.proofs.Turns.{first_same, first_whole}
 use Rattle.filter_iter.specs.Between.{LeadsIf}
-use Rattle.filter_iter.specs.Ways.{HasBranch, IsBranchAt, IsEndBranch, IsLeadAt, IsPrevAt, LeadGoesTo, branch_of_end, leaves_before_byte, leaves_to}
+use Rattle.filter_iter.specs.CursorPath.{HasBranch, IsBranchAt, IsEndBranch, IsLeadAt, IsPrevAt, LeadGoesTo, branch_of_end, leaves_before_byte, leaves_to}
 use Rattle.filter_iter.specs.declared.parts.Branch.{Branch}
 use Rattle.filter_iter.specs.declared.parts.Lead.{Lead}
 use Rattle.filter_iter.specs.declared.parts.Lead.TheVariants as lead

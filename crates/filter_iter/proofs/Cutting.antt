@@ -14,7 +14,7 @@ use Rattle.filter_iter.proofs.MetLeaves.{first_ones, leaf_of, none_begun, none_p
 use Rattle.filter_iter.proofs.Steps.{first_leaf_within}
 use Rattle.filter_iter.specs.Borders.{reached_begun, reached_past, reached_path}
 use Rattle.filter_iter.specs.Cuts.{FirstPass, has_begun}
-use Rattle.filter_iter.specs.Ways.{leaves_to}
+use Rattle.filter_iter.specs.CursorPath.{leaves_to}
 use Rattle.filter_iter.specs.declared.parts.Reached.{Reached}
 use Rattle.filter_model.proofs.Fronts.{IsBytes-tail}
 use Rattle.filter_model.specs.Answers.{is_past}

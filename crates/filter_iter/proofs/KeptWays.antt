@@ -6,7 +6,7 @@ use Rattle.std.proofs.lemmas.List.{take-append-le}
 use Rattle.filter_iter.proofs.ByNumber.{none_below}
 use Rattle.filter_iter.proofs.Standing.{one_below}
 use Rattle.filter_iter.specs.Borders.{LeadsOn}
-use Rattle.filter_iter.specs.Ways.{letters_of, leaves_to}
+use Rattle.filter_iter.specs.CursorPath.{letters_of, leaves_to}
 use Rattle.filter_iter.specs.declared.parts.Border.{Border}
 use Rattle.filter_iter.specs.declared.parts.Pass.{Pass}
 use Rattle.filter_model.specs.Leaves.{Leaf}

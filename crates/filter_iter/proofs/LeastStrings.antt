@@ -10,7 +10,7 @@ use Rattle.filter_image_model.proofs.Sizes.{low_height}
 use Rattle.filter_iter.proofs.MetLeaves.{own_suffix}
 use Rattle.filter_iter.proofs.WayLists.{length-letters}
 use Rattle.filter_iter.specs.Borders.{real_at}
-use Rattle.filter_iter.specs.Ways.{IsWayTo, letters_of, bytes_of_way}
+use Rattle.filter_iter.specs.CursorPath.{IsWayTo, letters_of, bytes_of_way}
 use Rattle.filter_iter.specs.declared.parts.Pass.{Pass}
 use Rattle.filter_model.proofs.Fronts.{IsBytes-tail}
 use Rattle.filter_model.specs.Answers.{begins}

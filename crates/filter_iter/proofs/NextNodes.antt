@@ -9,7 +9,7 @@ use Rattle.std.proofs.lemmas.List.Elements.{All-drop}
 use Rattle.bit_select.specs.Place.{IsPlaceOfOne}
 use Rattle.bit_words.specs.Counts.{is_set_at}
 use Rattle.filter_iter.proofs.Siblings.{begins_at, some_branch}
-use Rattle.filter_iter.specs.Spots.{BeginsNode, IsMark}
+use Rattle.filter_iter.specs.LeafPlace.{BeginsNode, IsMark}
 use Rattle.filter_iter.specs.declared.parts.Mark.{Mark}
 use Rattle.filter_model.specs.Image.{sparse_louds}
 use Rattle.filter_model.specs.Leaves.{Filter}

@@ -12,7 +12,7 @@ use Rattle.filter_iter.proofs.Sides.{both_ones, end_none, end_past, end_some, me
 use Rattle.filter_iter.specs.Between.{LeadsAlong, TellsFrom, TellsTo}
 use Rattle.filter_iter.specs.Borders.{reached_begun, reached_past}
 use Rattle.filter_iter.specs.Cuts.{FirstPass, has_begun}
-use Rattle.filter_iter.specs.Ways.{leaves_before_byte, leaves_to}
+use Rattle.filter_iter.specs.CursorPath.{leaves_before_byte, leaves_to}
 use Rattle.filter_iter.specs.declared.parts.Lead.TheVariants as lead
 use Rattle.filter_iter.specs.declared.parts.Reached.{Reached}
 use Rattle.filter_model.specs.Answers.{is_past, ranged}

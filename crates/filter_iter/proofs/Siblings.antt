@@ -3,8 +3,8 @@ use Rattle.std.proofs.Common.{◌≡◌, ℕ, ◌+◌, ◌-◌, ◌<◌, ◌≤�
 use Rattle.std.specs.Prelude.{◌&&◌, ◌==◌, not}
 use Rattle.std.proofs.lemmas.Bool.{cases_eq, cases_lt, eq-eqb, eqb-true, false≢true, ne_eqb}
 use Rattle.std.proofs.lemmas.List.{length-append}
-use Rattle.filter_iter.specs.Spots.{BeginsNode, IsFirstBranch, below_place}
-use Rattle.filter_iter.specs.Ways.{HasBranch, IsLeadAt, LeadGoesTo, leaves_to}
+use Rattle.filter_iter.specs.LeafPlace.{BeginsNode, IsFirstBranch, below_place}
+use Rattle.filter_iter.specs.CursorPath.{HasBranch, IsLeadAt, LeadGoesTo, leaves_to}
 use Rattle.filter_iter.specs.declared.parts.Branch.{Branch}
 use Rattle.filter_iter.specs.declared.parts.Lead.{Lead}
 use Rattle.filter_iter.specs.declared.parts.Lead.TheVariants as lead

@@ -13,7 +13,7 @@ use Rattle.filter_iter.proofs.MetLeaves.{none_begun, none_past, some_begun, some
 use Rattle.filter_iter.specs.Between.{LeadsAlong, LeadsIf, TellsFrom, TellsTo}
 use Rattle.filter_iter.specs.Borders.{reached_begun, reached_past, reached_path}
 use Rattle.filter_iter.specs.Cuts.{FirstPass, has_begun}
-use Rattle.filter_iter.specs.Ways.{HasBranch, IsNextAt, LeadGoesTo, leaves_before_byte, leaves_to}
+use Rattle.filter_iter.specs.CursorPath.{HasBranch, IsNextAt, LeadGoesTo, leaves_before_byte, leaves_to}
 use Rattle.filter_iter.specs.declared.parts.Branch.{Branch}
 use Rattle.filter_iter.specs.declared.parts.Lead.{Lead}
 use Rattle.filter_iter.specs.declared.parts.Lead.TheVariants as lead

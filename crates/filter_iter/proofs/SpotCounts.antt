@@ -7,8 +7,8 @@ use Rattle.std.proofs.lemmas.List.Sums.{sum_by-append}
 use Rattle.filter_image_model.proofs.Sizes.{some_height}
 use Rattle.filter_iter.proofs.Starts.{node_fits}
 use Rattle.filter_iter.proofs.Turns.{child_if, leads_bit, no_child_if}
-use Rattle.filter_iter.specs.Spots.{below_place}
-use Rattle.filter_iter.specs.Ways.{IsLeadAt}
+use Rattle.filter_iter.specs.LeafPlace.{below_place}
+use Rattle.filter_iter.specs.CursorPath.{IsLeadAt}
 use Rattle.filter_iter.specs.declared.parts.Lead.TheVariants as lead
 use Rattle.filter_model.specs.Leaves.{Filter}
 use Rattle.filter_model.specs.Nodes.{Branch, Node, all, at, children_before, leaves_before, trie_of}

@@ -8,7 +8,7 @@ use Rattle.filter_image_model.proofs.Paths.{fine_paths}
 use Rattle.filter_iter.proofs.Counts.{all_below_root}
 use Rattle.filter_iter.proofs.Cutting.{room}
 use Rattle.filter_iter.proofs.Groups.{reached_number}
-use Rattle.filter_iter.specs.Ways.{IsWay, IsWayTo, letters_of, leaves_to}
+use Rattle.filter_iter.specs.CursorPath.{IsWay, IsWayTo, letters_of, leaves_to}
 use Rattle.filter_iter.specs.declared.parts.Pass.{Pass}
 use Rattle.filter_model.specs.Leaves.{Leaf}
 use Rattle.filter_model.specs.Strings.{is_prefix}

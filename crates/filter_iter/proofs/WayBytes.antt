@@ -7,7 +7,7 @@ use Rattle.std.proofs.lemmas.Bool.{cases_lt}
 use Rattle.std.proofs.lemmas.List.{append-nil, length-append, length-take, take_more}
 use Rattle.std.proofs.lemmas.List.Elements.{filter-append}
 use Rattle.filter_iter.proofs.WayLists.{letters-push}
-use Rattle.filter_iter.specs.Ways.{letters_of, bytes_of_way}
+use Rattle.filter_iter.specs.CursorPath.{letters_of, bytes_of_way}
 use Rattle.filter_iter.specs.declared.parts.Pass.{Pass}
 
 few : (way : List Pass) → length (bytes_of_way way) ≤ length way

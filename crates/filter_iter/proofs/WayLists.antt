@@ -4,7 +4,7 @@ use Rattle.std.proofs.Math.ListN.{get_or-append}
 use Rattle.std.proofs.lemmas.Bool.{cases_lt}
 use Rattle.std.proofs.lemmas.List.{get_or_push, length-append, length-map, take-append-le, take_at}
 use Rattle.filter_image_model.proofs.Sizes.{some_height}
-use Rattle.filter_iter.specs.Ways.{HasBranch, IsPassAt, IsWay, LeadGoesTo, letters_of}
+use Rattle.filter_iter.specs.CursorPath.{HasBranch, IsPassAt, IsWay, LeadGoesTo, letters_of}
 use Rattle.filter_iter.specs.declared.parts.Branch.{Branch}
 use Rattle.filter_iter.specs.declared.parts.Pass.{Pass}
 use Rattle.filter_iter.specs.declared.parts.Spot.{Spot}

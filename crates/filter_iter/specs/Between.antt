@@ -1,7 +1,7 @@
 -- The bounds of a range, each by itself.
 use Rattle.std.specs.Prelude.{◌≡◌, ℕ, ◌≤◌, nat_lt, Bool, false, List, take, Option, Some, None}
 use Rattle.filter_iter.specs.Cuts.{FirstPass, has_begun}
-use Rattle.filter_iter.specs.Ways.{leaves_to}
+use Rattle.filter_iter.specs.CursorPath.{leaves_to}
 use Rattle.filter_iter.specs.declared.parts.Lead.{Lead}
 use Rattle.filter_iter.specs.declared.parts.Lead.TheVariants as lead
 use Rattle.filter_model.specs.Answers.{is_past}

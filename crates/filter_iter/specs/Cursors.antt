@@ -2,8 +2,8 @@
 use Rattle.std.specs.Prelude.{ℕ, ◌≤◌, List, [], get_or, map}
 use Rattle.std.specs.List.{All}
 use Rattle.filter_api.specs.Spellings.{MayBeTrie}
-use Rattle.filter_iter.specs.Spots.{HasSpot, IsMark}
-use Rattle.filter_iter.specs.Ways.{IsWayTo}
+use Rattle.filter_iter.specs.LeafPlace.{HasSpot, IsMark}
+use Rattle.filter_iter.specs.CursorPath.{IsWayTo}
 use Rattle.filter_iter.specs.declared.parts.Mark.{Mark}
 use Rattle.filter_iter.specs.declared.parts.Pass.{Pass}
 use Rattle.filter_model.specs.Leaves.{Filter, Leaf}

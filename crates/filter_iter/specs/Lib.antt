@@ -5,7 +5,7 @@ pub mod Counts
 pub mod Borders
 pub mod Cuts
 pub mod Numbers
-pub mod Ways
-pub mod Spots
+pub mod CursorPath
+pub mod LeafPlace
 pub mod Cursors
 pub mod Between

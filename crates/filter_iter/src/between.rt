@@ -3,7 +3,7 @@
 ghost use Rattle.std.specs.Prelude.{◌≡◌, ◌≢◌, ◌+◌, ◌++◌, ◌∷◌, [], ◌<◌, ◌≤◌, false, get_or, length, nat_lt, slice_index, take};
 ghost use Rattle.filter_api.specs.Spellings.{MayBeTrie};
 ghost use Rattle.filter_iter.specs.Between.{LeadsAlong, LeadsIf, TellsFrom, TellsTo};
-ghost use Rattle.filter_iter.specs.Ways.{leaves_to};
+ghost use Rattle.filter_iter.specs.CursorPath.{leaves_to};
 ghost use Rattle.filter_model.specs.Answers.{ranged};
 ghost use Rattle.filter_model.specs.Trie.{nodes};
 ghost use Rattle.filter_trie.specs.Walks.{IsNodeAt};

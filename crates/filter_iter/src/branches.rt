@@ -2,15 +2,15 @@
 ghost use Rattle.std.specs.Prelude.{◌≡◌, ◌+◌, ◌++◌, ◌∷◌, [], ◌<◌, ◌≤◌, IfSome, get_or, length};
 ghost use Rattle.std.specs.Option.{option_map};
 ghost use Rattle.filter_api.specs.Spellings.{MayBeTrie};
-ghost use Rattle.filter_iter.specs.Spots.{HasSpot, IsFirstBranch, IsSpotIfKnown};
-ghost use Rattle.filter_iter.specs.Ways.{HasBranch, IsBranchAt, IsEndBranch, IsLeadAt, IsNextAt, IsPrevAt, leaves_before_byte, leaves_to};
+ghost use Rattle.filter_iter.specs.LeafPlace.{HasSpot, IsFirstBranch, IsSpotIfKnown};
+ghost use Rattle.filter_iter.specs.CursorPath.{HasBranch, IsBranchAt, IsEndBranch, IsLeadAt, IsNextAt, IsPrevAt, leaves_before_byte, leaves_to};
 ghost use Rattle.filter_model.specs.Trie.{END, nodes};
 ghost use Rattle.filter_trie.specs.Places.{IsTaken, branch_number, trie as trie_in};
 ghost use Rattle.trie_model.specs.Letters.{order_of};
 ghost use Rattle.trie_model.specs.Rests.{first_leaf};
 
+use super::leaf_place::{branch_at_spot, branch_behind_spot, node_spot, spot_of};
 use super::parts::{Branch, END_LETTER, Lead, Pass, Spot};
-use super::spots::{branch_at_spot, branch_behind_spot, node_spot, spot_of};
 use filter_trie::{Place, Trie};
 use std::alloc::Allocator;
 

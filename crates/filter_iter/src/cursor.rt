@@ -6,11 +6,11 @@ ghost use Rattle.key_base.specs.Limits.{max_key_bytes};
 ghost use Rattle.suffix_bits.specs.Slots.{leaf_suffix};
 
 use super::answers::seek;
+use super::cursor_path::{go_first, go_last, turn_before, turn_behind};
 use super::following::go_to;
 use super::least::push_least;
 use super::parts::{Marks, Way};
 use super::stubs::{new_way, way_ends, write_stub};
-use super::ways::{go_first, go_last, turn_before, turn_behind};
 use filter_trie::Trie;
 use smallvec::SmallVec;
 use std::alloc::{AllocError, Allocator};

@@ -4,17 +4,17 @@ ghost use Rattle.std.specs.List.{All};
 ghost use Rattle.std.specs.Option.{option_map};
 ghost use Rattle.filter_api.specs.Spellings.{MayBeTrie};
 ghost use Rattle.filter_iter.specs.Borders.{HasLeft, IsBorder, LeadsToReached};
-ghost use Rattle.filter_iter.specs.Spots.{HasSpot, IsMark};
-ghost use Rattle.filter_iter.specs.Ways.{IsWay, IsWayTo, LeadGoesTo, letters_of};
+ghost use Rattle.filter_iter.specs.LeafPlace.{HasSpot, IsMark};
+ghost use Rattle.filter_iter.specs.CursorPath.{IsWay, IsWayTo, LeadGoesTo, letters_of};
 ghost use Rattle.filter_model.specs.Answers.{first};
 ghost use Rattle.filter_model.specs.Trie.{END, height as height_of};
 ghost use Rattle.trie_model.specs.Rests.{first_leaf};
 
 use super::answers::past_at;
 use super::borders::leaves_before;
+use super::cursor_path::{go_first, turn_behind};
 use super::parts::{Descent, END_LETTER, Lead, Marks, Pass, Reached, Way};
 use super::reaching::{root_descent, step_on};
-use super::ways::{go_first, turn_behind};
 use filter_trie::Trie;
 use std::alloc::Allocator;
 

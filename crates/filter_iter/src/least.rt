@@ -2,7 +2,7 @@
 ghost use Rattle.std.specs.Prelude.{◌≡◌, ◌+◌, ◌++◌, ◌<◌, ◌≤◌, length, slice_get, take, IfOk, IfSome, OnErr, OnOk};
 ghost use Rattle.std.specs.List.{splice};
 ghost use Rattle.filter_api.specs.Spellings.{MayBeTrie};
-ghost use Rattle.filter_iter.specs.Ways.{IsWayTo};
+ghost use Rattle.filter_iter.specs.CursorPath.{IsWayTo};
 ghost use Rattle.filter_model.specs.Answers.{begins};
 ghost use Rattle.key_base.specs.Limits.{max_key_bytes};
 

@@ -3,8 +3,8 @@ ghost use Rattle.std.specs.Prelude.{◌≡◌, ◌+◌, ◌++◌, ◌∷◌, [],
 ghost use Rattle.std.specs.List.{All};
 ghost use Rattle.filter_api.specs.Spellings.{MayBeTrie};
 ghost use Rattle.filter_iter.specs.Numbers.{IsLastByte, IsLeafBelow, IsStepTo, StandsAtNode};
-ghost use Rattle.filter_iter.specs.Spots.{HasSpot};
-ghost use Rattle.filter_iter.specs.Ways.{IsWayTo};
+ghost use Rattle.filter_iter.specs.LeafPlace.{HasSpot};
+ghost use Rattle.filter_iter.specs.CursorPath.{IsWayTo};
 ghost use Rattle.filter_model.specs.Trie.{height as height_of, nodes};
 ghost use Rattle.trie_model.specs.Rests.{first_leaf};
 

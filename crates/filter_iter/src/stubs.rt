@@ -1,6 +1,6 @@
 //! Ways as bytes.
 ghost use Rattle.std.specs.Prelude.{◌≡◌, ◌==◌, ◌++◌, [], ◌≤◌, drop, length, IfOk};
-ghost use Rattle.filter_iter.specs.Ways.{bytes_of_way, letters_of};
+ghost use Rattle.filter_iter.specs.CursorPath.{bytes_of_way, letters_of};
 ghost use Rattle.filter_model.specs.Nodes.{last_letter};
 ghost use Rattle.filter_model.specs.Trie.{END};
 

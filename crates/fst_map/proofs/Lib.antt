@@ -6,3 +6,4 @@ pub mod Judged
 pub mod Starts
 pub mod Standing
 pub mod Pairs
+pub mod Written

@@ -108,10 +108,11 @@ none_added = record {
   each = λ i d within. absurd (omega (arith, within));
   rising = AllPairs-nil (λ a b. is_before a b ≡ true);
   short = λ i d within. absurd (omega (arith, within));
+  bytes = λ i d within. absurd (omega (arith, within));
 }
 
-pub one_added : (keys values : List Bytes) (key value : Bytes) → ArePairs keys values → IsBytes key → IsTaken (zip keys values) key value → ArePairs (keys ++ key ∷ []) (values ++ value ∷ [])
-one_added keys values key value p bytes t = record {
+pub one_added : (keys values : List Bytes) (key value : Bytes) → ArePairs keys values → IsBytes key → IsBytes value → IsTaken (zip keys values) key value → ArePairs (keys ++ key ∷ []) (values ++ value ∷ [])
+one_added keys values key value p bytes value_bytes t = record {
   as_many = omega (arith, p.as_many, length-append keys (key ∷ []), length-append values (value ∷ []));
   few = omega (arith, t.room, zip_size keys values p.as_many, length-append keys (key ∷ []));
   each = All-append IsKey keys (key ∷ []) p.each (one IsKey key (record { bytes = bytes; filled = t.filled; short = t.short }));
@@ -122,4 +123,5 @@ one_added keys values key value p bytes t = record {
         | inr there ↦ absurd (Contains-nil y there)
       ]);
   short = All-append (λ (v : Bytes). length v ≤ 65536) values (value ∷ []) p.short (one (λ (v : Bytes). length v ≤ 65536) value t.value_short);
+  bytes = All-append IsBytes values (value ∷ []) p.bytes (one IsBytes value value_bytes);
 }

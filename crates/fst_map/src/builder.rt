@@ -1,7 +1,8 @@
 //! A map that is built pair by pair.
 ghost use Rattle.std.specs.Prelude.{◌≡◌, ◌≤◌, ◌++◌, ◌∷◌, [], length, IfErr, None, OnErr, OnOk};
 ghost use Rattle.fst_map.specs.Adding.{add_fault, fault_said, is_above};
-ghost use Rattle.map_writer.specs.Bodies.{IsCause, body_by, max_body_bytes};
+ghost use Rattle.fst_map.specs.Writing.{IsReadAgain};
+ghost use Rattle.map_writer.specs.Bodies.{IsBodyBy, IsCause, body_by, max_body_bytes};
 
 use crate::error::AddError;
 use key_base::{KeyList, MAX_KEY_BYTES, compare};
@@ -63,14 +64,17 @@ impl FstBuilder {
         self.push(key, value)
     }
 
-    /// Appends the bytes of the map of all pairs, which [`crate::FstMap::read`] takes, with as many levels of its trie dense as
-    /// the rule allows by `ratio`; 64 is usual, and 0 makes all of them dense.
+    /// Appends the bytes of the map of all pairs, with as many levels of its trie dense as the rule allows by `ratio`; 64 is
+    /// usual, and 0 makes all of them dense. [`crate::FstMap::read`] takes these bytes as the map of these pairs, and fails only
+    /// for want of memory.
     ///
     /// Fails where there is no pair, where the bytes would be more than 2^31, or for want of memory; `out` stays as it was then.
     /// The pairs stay, so that it may be called again. Goes over the letters of all keys twice, and over the bytes once.
     pub fn finish(&self, ratio: u16, out: &mut Vec<u8>) -> Result<(), FinishError>
         ensures some { OnOk result (1 ≤ length self.now) }
         ensures added { OnOk result (out.new.items ≡ out.old.items ++ body_by ratio self.now) }
+        ensures body { OnOk result (IsBodyBy ratio self.now) }
+        ensures read_again { OnOk result (IsReadAgain ratio self.now) }
         ensures not_large { OnOk result (length (body_by ratio self.now) ≤ max_body_bytes) }
         ensures unchanged { OnErr result (out.new.items ≡ out.old.items) }
         ensures cause { IfErr result (IsCause ratio self.now) }

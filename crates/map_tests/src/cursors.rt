@@ -19,8 +19,13 @@ pub(crate) fn start<'a>(
     }
 }
 
-fn check_pair(rt: &impl Abort, cursor: &FstCursor<'_, Global, Global>, number: usize) {
-    match SIX_PAIRS.get(number) {
+fn check_pair(
+    rt: &impl Abort,
+    cursor: &FstCursor<'_, Global, Global>,
+    pairs: &[(&[u8], &[u8])],
+    number: usize,
+) {
+    match pairs.get(number) {
         Some((key, value)) => {
             assert!(rt; cursor.key() == *key);
             assert!(rt; cursor.value() == *value);
@@ -29,27 +34,44 @@ fn check_pair(rt: &impl Abort, cursor: &FstCursor<'_, Global, Global>, number: u
     }
 }
 
-#[test]
-fn a_cursor_goes_to_both_ends(rt: HostRuntime) -> Result<(), Fail> {
-    let alloc = rt.alloc();
-    let map = read(alloc, &SIX)?;
-    let Some(mut cursor) = start(&alloc, &map, b"")? else {
-        return Err(Fail::from("no pair"));
-    };
-    for number in 0..SIX_PAIRS.len() {
-        check_pair(&rt, &cursor, number);
-        assert!(rt; cursor.next() == (number + 1 < SIX_PAIRS.len()));
+/// From the pair of this number, at which the cursor is, to the last one and back to the first one.
+pub(crate) fn check_walk(
+    rt: &impl Abort,
+    cursor: &mut FstCursor<'_, Global, Global>,
+    pairs: &[(&[u8], &[u8])],
+    from: usize,
+) {
+    for number in from..pairs.len() {
+        check_pair(rt, cursor, pairs, number);
+        assert!(rt; cursor.next() == (number + 1 < pairs.len()));
     }
-    for number in (0..SIX_PAIRS.len()).rev() {
-        check_pair(&rt, &cursor, number);
+    for number in (0..pairs.len()).rev() {
+        check_pair(rt, cursor, pairs, number);
         assert!(rt; cursor.prev() == (number > 0));
     }
-    check_pair(&rt, &cursor, 0);
-    Ok(())
+    check_pair(rt, cursor, pairs, 0);
 }
 
-// Bounds, and the number of the first pair whose key is not below.
-type Row = (&'static [u8], Option<usize>);
+/// Bounds, and the number of the first pair whose key is not below.
+pub(crate) type Row = (&'static [u8], Option<usize>);
+
+/// Cursors from each of these bounds to both ends.
+pub(crate) fn check_starts(
+    rt: &impl Abort,
+    alloc: Global,
+    map: &FstMap<'_, Global>,
+    pairs: &[(&[u8], &[u8])],
+    rows: &[Row],
+) -> Result<(), AllocError> {
+    for (lo, wanted) in rows {
+        match (start(&alloc, map, *lo)?, *wanted) {
+            (Some(mut cursor), Some(number)) => check_walk(rt, &mut cursor, pairs, number),
+            (None, None) => {}
+            _ => assert!(rt; false),
+        }
+    }
+    Ok(())
+}
 
 const ROWS: [Row; 13] = [
     (b"", Some(0)),
@@ -68,20 +90,23 @@ const ROWS: [Row; 13] = [
 ];
 
 #[test]
-fn cursors_start_where_keys_are_not_below(rt: HostRuntime) -> Result<(), Fail> {
+fn cursors_start_where_keys_are_not_below_and_go_to_both_ends(rt: HostRuntime) -> Result<(), Fail> {
     let alloc = rt.alloc();
     let map = read(alloc, &SIX)?;
-    for (lo, wanted) in &ROWS {
-        match (start(&alloc, &map, *lo)?, *wanted) {
-            (Some(mut cursor), Some(number)) => {
-                check_pair(&rt, &cursor, number);
-                // The pair before is the one before, also where the bound goes on from its key.
-                assert!(rt; cursor.prev() == (number > 0));
-                check_pair(&rt, &cursor, number.saturating_sub(1));
-            }
-            (None, None) => {}
-            _ => assert!(rt; false),
-        }
-    }
+    check_starts(&rt, alloc, &map, &SIX_PAIRS, &ROWS)?;
+    Ok(())
+}
+
+// The pair before is the one before, also where the bound goes on from its key.
+#[test]
+fn a_cursor_goes_back_from_where_it_starts(rt: HostRuntime) -> Result<(), Fail> {
+    let alloc = rt.alloc();
+    let map = read(alloc, &SIX)?;
+    let Some(mut cursor) = start(&alloc, &map, b"abcde")? else {
+        return Err(Fail::from("no pair"));
+    };
+    check_pair(&rt, &cursor, &SIX_PAIRS, 3);
+    assert!(rt; cursor.prev());
+    check_pair(&rt, &cursor, &SIX_PAIRS, 2);
     Ok(())
 }

@@ -9,6 +9,8 @@ mod answers;
 #[cfg(test)]
 mod bodies;
 #[cfg(test)]
+mod borders;
+#[cfg(test)]
 mod builders;
 #[cfg(test)]
 mod building;

@@ -12,7 +12,7 @@ use std::test::Fail;
 use test_kit::{Numbers, boxed};
 
 // How many maps are drawn.
-const MAPS: u64 = 60;
+const MAPS: u64 = 2_000;
 
 // How many keys a map has at most.
 const MAX_KEYS: usize = 12;

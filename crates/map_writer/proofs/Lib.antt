@@ -3,3 +3,4 @@ pub mod Slots
 pub mod Growing
 pub mod Sizes
 pub mod Tries
+pub mod Bodies

@@ -3,7 +3,7 @@ ghost use Rattle.std.specs.Prelude.{◌≡◌, ◌++◌, ◌≤◌, length, take
 ghost use Rattle.filter_model.specs.Image.{image};
 ghost use Rattle.map_file_model.specs.Body.{body_of, front_of, slotted_values};
 ghost use Rattle.map_file_model.specs.Maps.{max_map_pairs};
-ghost use Rattle.map_writer.specs.Bodies.{ArePairs, IsCause, body_by, headed, max_body_bytes};
+ghost use Rattle.map_writer.specs.Bodies.{ArePairs, IsBodyBy, IsCause, body_by, headed, max_body_bytes};
 ghost use Rattle.map_writer.specs.Orders.{AreOrdered};
 ghost use Rattle.map_writer.specs.Plans.{IsPlanOf};
 ghost use Rattle.whole_keys.specs.Whole.{whole_leaves};
@@ -40,6 +40,7 @@ pub fn write_body(
     requires { ArePairs keys.now values.now }
     ensures some { OnOk result (1 ≤ length keys.now) }
     ensures added { OnOk result (out.new.items ≡ out.old.items ++ body_by ratio (zip keys.now values.now)) }
+    ensures body { OnOk result (IsBodyBy ratio (zip keys.now values.now)) }
     ensures not_large { OnOk result (length (body_by ratio (zip keys.now values.now)) ≤ max_body_bytes) }
     ensures unchanged { OnErr result (out.new.items ≡ out.old.items) }
     ensures cause { IfErr result (IsCause ratio (zip keys.now values.now)) }

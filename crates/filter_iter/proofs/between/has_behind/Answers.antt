@@ -1,6 +1,6 @@
 use Rattle.std.proofs.Common.{ℕ, ◌++◌, ◌∷◌, [], get_or, subst, ◌∙◌}
 use Rattle.filter_iter.proofs.Sides.{behind_is}
-use Rattle.filter_iter.specs.Ways.{IsNextAt, leaves_to}
+use Rattle.filter_iter.specs.CursorPath.{IsNextAt, leaves_to}
 use Rattle.filter_model.specs.Trie.{nodes}
 use Rattle.filter_iter.proofs.between.has_behind.Goals as goal
 

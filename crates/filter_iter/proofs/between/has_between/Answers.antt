@@ -1,6 +1,6 @@
 use Rattle.std.proofs.Common.{◌≡◌, ℕ, Some, ap, subst, ◌∙◌, ◌++◌, ◌∷◌, [], get_or, nat_lt}
 use Rattle.filter_iter.proofs.Sides.{between_is, between_order, none_is}
-use Rattle.filter_iter.specs.Ways.{IsNextAt, leaves_to}
+use Rattle.filter_iter.specs.CursorPath.{IsNextAt, leaves_to}
 use Rattle.filter_model.specs.Trie.{nodes}
 use Rattle.filter_iter.proofs.between.has_between.Goals as goal
 

@@ -1,6 +1,6 @@
 use Rattle.std.specs.Prelude.{◌≡◌, ◌-◌, ◌≤◌, length, take}
 use Rattle.filter_iter.specs.Between.{LeadsAlong}
-use Rattle.filter_iter.specs.Ways.{leaves_to}
+use Rattle.filter_iter.specs.CursorPath.{leaves_to}
 use Rattle.filter_iter.proofs.between.some_from.Given as goal
 
 -- the bytes read so far lead there, and the same leaves are to come as from the start

@@ -4,7 +4,7 @@ use Rattle.filter_iter.proofs.MetLeaves.{slot_fits}
 use Rattle.filter_iter.proofs.Sides.{along, some_lead, to_end, to_ended, to_leaf, to_none, to_on, to_other, to_same}
 use Rattle.filter_iter.specs.Between.{LeadsAlong, TellsTo}
 use Rattle.filter_iter.specs.Borders.{reached_begun}
-use Rattle.filter_iter.specs.Ways.{LeadGoesTo}
+use Rattle.filter_iter.specs.CursorPath.{LeadGoesTo}
 use Rattle.filter_iter.specs.declared.parts.Lead.{Lead}
 use Rattle.filter_iter.specs.declared.parts.Lead.TheVariants as lead
 use Rattle.filter_iter.specs.declared.parts.Reached.{Reached}

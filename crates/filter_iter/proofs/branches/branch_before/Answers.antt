@@ -1,6 +1,6 @@
 use Rattle.std.proofs.Common.{ℕ, ap, arith, subst, sym, ◌∙◌, ◌++◌, ◌∷◌, get_or, []}
 use Rattle.filter_iter.proofs.Branching.{by_low, first_end}
-use Rattle.filter_iter.specs.Ways.{IsPrevAt}
+use Rattle.filter_iter.specs.CursorPath.{IsPrevAt}
 use Rattle.filter_model.specs.Trie.{nodes}
 use Rattle.trie_model.specs.Rests.{first_leaf}
 use Rattle.filter_iter.proofs.branches.branch_before.Goals as goal

@@ -1,6 +1,6 @@
 use Rattle.std.proofs.Common.{ℕ, ap, arith, subst, sym, ◌∙◌, get_or, []}
 use Rattle.filter_iter.proofs.Branching.{by_letter, order_small}
-use Rattle.filter_iter.specs.Ways.{IsNextAt, leaves_before_byte}
+use Rattle.filter_iter.specs.CursorPath.{IsNextAt, leaves_before_byte}
 use Rattle.filter_model.specs.Trie.{nodes}
 use Rattle.filter_iter.proofs.branches.branch_behind.Goals as goal
 

@@ -1,6 +1,6 @@
 use Rattle.std.proofs.Common.{ap, sym}
 use Rattle.std.specs.Option.{option_map}
-use Rattle.filter_iter.specs.Ways.{branch_of_end}
+use Rattle.filter_iter.specs.CursorPath.{branch_of_end}
 use Rattle.filter_iter.proofs.branches.end_branch.Goals as goal
 
 pub returns-in-Some : goal.returns-in-Some

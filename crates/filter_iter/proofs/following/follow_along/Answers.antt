@@ -6,8 +6,8 @@ use Rattle.filter_iter.proofs.Bounds.{at_last, at_root, leads_nowhere, not_so, s
 use Rattle.filter_iter.proofs.KeptWays.{is_so, node_at}
 use Rattle.filter_iter.proofs.WayLists.{no_way, way_low, way_on}
 use Rattle.filter_iter.specs.Borders.{HasLeft, IsBorder, IsDescent, IsStepBy}
-use Rattle.filter_iter.specs.Spots.{HasSpot}
-use Rattle.filter_iter.specs.Ways.{IsWay, letters_of}
+use Rattle.filter_iter.specs.LeafPlace.{HasSpot}
+use Rattle.filter_iter.specs.CursorPath.{IsWay, letters_of}
 use Rattle.filter_iter.specs.declared.parts.Pass.{Pass}
 use Rattle.filter_model.specs.Trie.{END, height}
 use Rattle.filter_iter.proofs.following.follow_along.Goals as goal

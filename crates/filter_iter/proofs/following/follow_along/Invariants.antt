@@ -1,8 +1,8 @@
 use Rattle.std.specs.Prelude.{◌≡◌, ◌++◌, ◌∷◌, [], take}
 use Rattle.std.specs.List.{All}
 use Rattle.filter_iter.specs.Borders.{IsDescent, IsStepBy}
-use Rattle.filter_iter.specs.Spots.{HasSpot}
-use Rattle.filter_iter.specs.Ways.{IsWay, letters_of}
+use Rattle.filter_iter.specs.LeafPlace.{HasSpot}
+use Rattle.filter_iter.specs.CursorPath.{IsWay, letters_of}
 use Rattle.filter_model.specs.Trie.{END}
 use Rattle.filter_iter.proofs.following.follow_along.Given as goal
 

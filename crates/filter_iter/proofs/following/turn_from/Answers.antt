@@ -2,7 +2,7 @@ use Rattle.std.proofs.Common.{◌≡◌, Option, arith, rules, subst}
 use Rattle.std.specs.Prelude.{IfNone}
 use Rattle.filter_iter.proofs.KeptWays.{behind_none, behind_one}
 use Rattle.filter_iter.specs.Borders.{LeadsToReached}
-use Rattle.filter_iter.specs.Ways.{letters_of}
+use Rattle.filter_iter.specs.CursorPath.{letters_of}
 use Rattle.filter_iter.specs.declared.parts.Reached.{Reached}
 use Rattle.filter_iter.proofs.following.turn_from.Goals as goal
 

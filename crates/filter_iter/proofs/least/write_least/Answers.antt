@@ -6,7 +6,7 @@ use Rattle.filter_iter.proofs.LeastStrings.{least_is, real_small, way_short}
 use Rattle.filter_iter.proofs.MetLeaves.{slot_fits}
 use Rattle.filter_iter.proofs.WayLists.{length-letters}
 use Rattle.filter_iter.specs.Borders.{real_at}
-use Rattle.filter_iter.specs.Ways.{bytes_of_way, letters_of}
+use Rattle.filter_iter.specs.CursorPath.{bytes_of_way, letters_of}
 use Rattle.filter_model.specs.Strings.{shortest}
 use Rattle.suffix_bits.specs.Slots.{Suffix}
 use Rattle.filter_iter.proofs.least.write_least.Goals as goal

@@ -7,8 +7,8 @@ use Rattle.filter_iter.proofs.Counts.{all_below_root}
 use Rattle.filter_iter.proofs.WayLists.{no_way, node_low, way_on}
 use Rattle.filter_iter.specs.Borders.{IsBorder, leaves_at}
 use Rattle.filter_iter.specs.Numbers.{IsLeafBelow, IsStepTo}
-use Rattle.filter_iter.specs.Spots.{HasSpot}
-use Rattle.filter_iter.specs.Ways.{IsWay, letters_of}
+use Rattle.filter_iter.specs.LeafPlace.{HasSpot}
+use Rattle.filter_iter.specs.CursorPath.{IsWay, letters_of}
 use Rattle.filter_iter.specs.declared.parts.Pass.{Pass}
 use Rattle.filter_iter.specs.declared.parts.Step.TheVariants as step
 use Rattle.filter_model.specs.Trie.{END, nodes, path}

@@ -2,8 +2,8 @@ use Rattle.std.specs.Prelude.{◌≡◌, length}
 use Rattle.std.specs.List.{All}
 use Rattle.filter_iter.specs.Borders.{IsBorder, leaves_at}
 use Rattle.filter_iter.specs.Numbers.{IsLeafBelow}
-use Rattle.filter_iter.specs.Spots.{HasSpot}
-use Rattle.filter_iter.specs.Ways.{IsWay, letters_of}
+use Rattle.filter_iter.specs.LeafPlace.{HasSpot}
+use Rattle.filter_iter.specs.CursorPath.{IsWay, letters_of}
 use Rattle.filter_trie.specs.Walks.{IsNodeAt}
 use Rattle.trie_model.specs.Rests.{first_leaf}
 use Rattle.filter_iter.proofs.numbers.find.Given as goal

@@ -1,5 +1,5 @@
 use Rattle.std.specs.Prelude.{◌≡◌, ◌++◌, drop, length, take}
-use Rattle.filter_iter.specs.Ways.{bytes_of_way}
+use Rattle.filter_iter.specs.CursorPath.{bytes_of_way}
 use Rattle.filter_iter.proofs.stubs.write_stub.Given as goal
 
 -- the bytes of the passes so far are written

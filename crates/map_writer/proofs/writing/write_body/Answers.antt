@@ -2,6 +2,7 @@ use Rattle.std.proofs.Common.{◌++◌, ◌∙◌, ℕ, length, ap, arith, sym}
 use Rattle.std.specs.Prelude.{zip}
 use Rattle.map_file_model.specs.Maps.{Bytes}
 use Rattle.map_writer.specs.Bodies.{IsCause}
+use Rattle.map_writer.proofs.Bodies.{is_body}
 use Rattle.map_writer.proofs.Slots.{are_ordered, by_plan, listed, memory_alone, not_zero, some_pairs}
 use Rattle.trie_build.proofs.Whole.{tall_nodes}
 use Rattle.whole_keys.specs.Whole.{whole_leaves}
@@ -33,6 +34,9 @@ push_body-requires-clause-order c =
 pub returns-in-Ok-clause-added : goal.returns-in-Ok-clause-added
 returns-in-Ok-clause-added c =
     c.in-Ok.ensures.added ∙ ap (λ (l : Bytes). c.args.out.now.items ++ l) (by_plan c.args.keys.now c.args.values.now (listed c.args.keys.now c.args.values.now c.requires (not_zero (length c.args.keys.now) c.if-is_empty.ensures)) c.requires c.args.ratio c.in_ok-plan.plan.cutoff c.in_ok-plan.ensures.cutoff)
+
+pub returns-in-Ok-clause-body : goal.returns-in-Ok-clause-body
+returns-in-Ok-clause-body c = is_body c.args.ratio c.args.keys.now c.args.values.now c.requires (not_zero (length c.args.keys.now) c.if-is_empty.ensures)
 
 pub returns-in-Ok-clause-not_large : goal.returns-in-Ok-clause-not_large
 returns-in-Ok-clause-not_large c =

@@ -1,7 +1,7 @@
 use Rattle.std.proofs.Common.{List, ap, ◌∙◌}
 use Rattle.std.specs.Prelude.{◌==◌}
 use Rattle.filter_iter.proofs.LeastStrings.{own_end}
-use Rattle.filter_iter.specs.Ways.{letters_of}
+use Rattle.filter_iter.specs.CursorPath.{letters_of}
 use Rattle.filter_iter.specs.declared.parts.Pass.{Pass}
 use Rattle.filter_model.specs.Nodes.{last_letter}
 use Rattle.filter_model.specs.Trie.{END}

@@ -1,7 +1,7 @@
 use Rattle.std.proofs.Common.{◌-◌, arith, rules, subst, sym}
 use Rattle.std.specs.List.{All}
 use Rattle.std.proofs.lemmas.List.Elements.{All-nil}
-use Rattle.filter_iter.specs.Spots.{IsMark}
+use Rattle.filter_iter.specs.LeafPlace.{IsMark}
 use Rattle.filter_iter.proofs.Standing.{number_is, way_to_last}
 use Rattle.filter_iter.proofs.cursor.FilterCursor.prev.Goals as goal
 

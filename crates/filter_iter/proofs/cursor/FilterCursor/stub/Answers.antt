@@ -1,6 +1,6 @@
 use Rattle.std.proofs.Common.{List, ap, arith, drop, length, ◌++◌, ◌∙◌}
 use Rattle.filter_iter.proofs.LeastStrings.{own_count, own_stub, way_short}
-use Rattle.filter_iter.specs.Ways.{bytes_of_way}
+use Rattle.filter_iter.specs.CursorPath.{bytes_of_way}
 use Rattle.filter_iter.specs.declared.parts.Pass.{Pass}
 use Rattle.filter_iter.proofs.cursor.FilterCursor.stub.Goals as goal
 

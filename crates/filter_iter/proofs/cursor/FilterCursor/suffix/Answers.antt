@@ -1,6 +1,6 @@
 use Rattle.filter_iter.proofs.LeastStrings.{own_leaf_suffix}
 use Rattle.filter_iter.proofs.MetLeaves.{slot_fits}
-use Rattle.filter_iter.specs.Ways.{letters_of}
+use Rattle.filter_iter.specs.CursorPath.{letters_of}
 use Rattle.filter_iter.proofs.cursor.FilterCursor.suffix.Goals as goal
 
 pub suffix-requires : goal.suffix-requires

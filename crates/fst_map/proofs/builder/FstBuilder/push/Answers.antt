@@ -19,4 +19,4 @@ invariant_of-self-in-Ok c =
     let value = c.args.value.now in
     let taken = is_taken (zip keys values) key value (ap (λ (m : Map). add_fault m key value) c.self.view_is ∙ c.requires) in
     subst (λ (ks : List Bytes). ArePairs ks c.push-2.new.self) (sym c.in_ok-push.ensures.added)
-    (subst (ArePairs (keys ++ key ∷ [])) (sym c.in-Ok.ensures.added) (one_added keys values key value c.self.invariant (λ k. (c.type_inv.key k).fits) taken))
+    (subst (ArePairs (keys ++ key ∷ [])) (sym c.in-Ok.ensures.added) (one_added keys values key value c.self.invariant (λ k. (c.type_inv.key k).fits) (λ k. (c.type_inv.value k).fits) taken))
