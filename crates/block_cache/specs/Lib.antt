@@ -1,3 +1,3 @@
-pub mod Ends
+pub mod Lends
 pub mod Kept
 pub mod Laws

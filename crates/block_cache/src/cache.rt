@@ -32,7 +32,7 @@ impl Model for BlockCache {
 }
 
 impl BlockCache {
-    ghost use Rattle.block_cache.specs.Ends.{cache_ends};
+    ghost use Rattle.block_cache.specs.Lends.{cache_ends};
 
     /// A cache that keeps nothing yet. It takes the memory of its map, for 64 blocks, at once.
     pub fn new(alloc: Global) -> Result<BlockCache, AllocError>

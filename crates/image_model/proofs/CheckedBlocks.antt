@@ -55,7 +55,7 @@ part_kept p at kept bytes fault e = go (kept == fnv_of bytes) refl fault e
     go true s (Some g) f = absurd cc
     go false s o f = absurd cc
 
--- ---- bytes that stand one after the other
+-- ---- bytes that are one after the other
 
 shown_join : (at : ℕ) (xs ys : Bytes) (image : Image) → Shows at xs image → Shows (at + length xs) ys image → Shows at (xs ++ ys) image
 shown_join at xs ys image a b = ap (window image at) (length-append xs ys) ∙ window_split image at (length xs) (length ys) ∙ ap₂ (λ (x y : Bytes). x ++ y) a b
@@ -71,7 +71,7 @@ follow_join test (e ∷ next ∷ later) more some rising first rest =
 
 -- ---- one block
 
--- the pieces that stand from a page on, by their rows
+-- the pieces that are from a page on, by their rows
 abbrev pub pieces_at : ℕ → List IndexRow → Image → List Bytes
 pieces_at page [] image = []
 pieces_at page (row ∷ later) image = block_part page row image ∷ pieces_at (page + row.pages) later image

@@ -1,4 +1,4 @@
--- Tables whose levels do not fall and whose ranges break no rule stand in their order.
+-- Tables whose levels do not fall and whose ranges break no rule are in their order.
 use Rattle.std.proofs.Common.{◌≡◌, inl, inr, ◌≤◌, ◌+◌, ℕ, List, [], ◌∷◌, refl, ap, ◌∙◌, arith}
 use Rattle.std.proofs.lemmas.Bool.{eqb-true, ltb-false}
 use Rattle.std.specs.Prelude.{map, Bool, true, false, not, ◌||◌, ◌==◌, nat_lt, None}
@@ -6,16 +6,16 @@ use Rattle.std.specs.List.{AllByRecursion, AllPairs}
 use Rattle.byte_fields.specs.declared.parts.Row.{Row}
 use Rattle.disk_trait.specs.Image.{Image}
 use Rattle.filter_api.specs.Spellings.{Spelling}
-use Rattle.key_base.specs.ByteOrder.{is_before}
+use Rattle.range_model.specs.Reach.{lies_below}
 use Rattle.block_model.proofs.Refusals.{kept, not_false}
 use Rattle.extent_model.proofs.Lists.{Pairs, all_pairs}
 use Rattle.manifest_model.specs.Reading.{levels_fault}
 use Rattle.manifest_model.specs.Tables.{follows, ranges_after, ranges_fault}
-use Rattle.state_model.specs.Merges.{greatest_key, least_key}
+use Rattle.state_model.specs.Merges.{least_key}
 use Rattle.state_model.specs.Sound.{IsSoundTable, StandsBefore}
 use Rattle.state_model.proofs.Hulls.{fit_of}
-use Rattle.state_model.proofs.Inserted.{before_of, before_then}
-use Rattle.table_model.specs.Tables.{Table}
+use Rattle.state_model.proofs.Inserted.{before_then}
+use Rattle.table_model.specs.Tables.{Table, as_source}
 use Rattle.image_model.specs.Tables.{AreTablesOf}
 use Rattle.image_model.proofs.Ranges.{range_of_table}
 
@@ -40,20 +40,20 @@ climb_of spelling place before (row ∷ rows) (t ∷ ts) image are none =
 
 -- ---- ranges
 
--- each but the first stands behind the one before
+-- each but the first is after the one before
 abbrev Next : Table → List Table → Type 0
 Next t [] = Unit {0}
 Next t (u ∷ later) = StandsBefore t u × Next u later
 
-by_tests : (t u : Table) (a b c : Bool) → (t.level == u.level) ≡ a → (u.level == 0) ≡ b → is_before (greatest_key t) (least_key u) ≡ c → t.level ≤ u.level
+by_tests : (t u : Table) (a b c : Bool) → (t.level == u.level) ≡ a → (u.level == 0) ≡ b → lies_below (as_source t) (least_key u) ≡ c → t.level ≤ u.level
     → (not a || b || c) ≡ true → StandsBefore t u
 by_tests t u false b c level zeroth above up so = inl (grind arith)
 by_tests t u true true c level zeroth above up so = let same = eqb-true t.level u.level level in inr (same, inl (same ∙ eqb-true u.level 0 zeroth))
-by_tests t u true false true level zeroth above up so = inr (eqb-true t.level u.level level, inr (before_of (greatest_key t) (least_key u) above))
+by_tests t u true false true level zeroth above up so = inr (eqb-true t.level u.level level, inr above)
 by_tests t u true false false level zeroth above up so = absurd cc
 
 stands_next : (t u : Table) → t.level ≤ u.level → follows (range_of_table t) (range_of_table u) ≡ true → StandsBefore t u
-stands_next t u up so = by_tests t u (t.level == u.level) (u.level == 0) (is_before (greatest_key t) (least_key u)) refl refl refl up so
+stands_next t u up so = by_tests t u (t.level == u.level) (u.level == 0) (lies_below (as_source t) (least_key u)) refl refl refl up so
 
 next_of : (place : ℕ) (t : Table) (later : List Table) → Climb t.level later → ranges_after place (range_of_table t) (map range_of_table later) ≡ None → Next t later
 unfolding ranges_after

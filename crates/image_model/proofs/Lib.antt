@@ -10,6 +10,7 @@ pub mod InOrder
 pub mod Opened
 pub mod Opening
 pub mod Sound
+pub mod OnlyEntries
 pub mod CheckedBlocks
 pub mod CheckedTables
 pub mod NoFindings

@@ -1,5 +1,5 @@
--- A new store stands.
-use Rattle.std.proofs.Common.{◌≡◌, ◌≤◌, ℕ, inl, refl, arith}
+-- A new store stands for a state.
+use Rattle.std.proofs.Common.{◌≡◌, ◌≤◌, ℕ, [], inl, refl, arith}
 use Rattle.std.specs.Prelude.{None}
 use Rattle.filter_api.specs.Ranges.{InRange}
 use Rattle.filter_api.specs.declared.settings.Settings.{Settings}
@@ -43,7 +43,9 @@ new_store_ready spelling settings pages image range ratio some few formatted = r
     order = λ i j d before within. absurd (omega (arith, within));
     area = 0;
     area_is = refl;
+    entries = [];
     log = empty 0 image formatted.log_gate;
+    sets = refl;
     no_job = refl;
     none_kept = refl;
   };

@@ -244,7 +244,7 @@ state_has_none spelling first_fault image slot other v s slots current is =
     let opened = all_opened spelling v.rows s.tables image named.tables in
     let ranges : neighbours_fault v.rows image ≡ None = neighbours_are image v.rows (indexes_of_opened spelling image v.rows opened) ∙ ranges_keep spelling v.rows s.tables image named.tables named.order in
     subst (AreFindings spelling first_fault image) (ap (λ (o : Option Fault). ranges_findings slot o ++ []) ranges)
-    (of_version slot other v [] [] slots current (rows_of_state spelling first_fault image v.rows s.tables named.tables) (spelled named.area s.log named.area_is named.log))
+    (of_version slot other v [] [] slots current (rows_of_state spelling first_fault image v.rows s.tables named.tables) (spelled named.area named.entries named.area_is named.log))
 
 pub of_state : (spelling : Spelling) (first_fault : Bytes → FilterFault) (image : Image) → (s : State) × IsStateOf spelling s image → AreFindings spelling first_fault image []
 of_state spelling first_fault image (s, (v, is)) = go is.version_is

@@ -136,6 +136,7 @@ state_opens spelling s image is =
     let v = is.0 in
     let named = is.1.named in (
       v,
+      named.entries,
       record {
         version_is = is.1.version_is;
         tables = all_opened spelling v.rows s.tables image named.tables;
@@ -144,6 +145,7 @@ state_opens spelling s image is =
         area_is = named.area_is;
         log = named.log;
       },
+      named.sets,
     )
 
 no_level_falls : (v : Version) → IsVersion v → levels_fault 64 0 v.rows ≡ None
@@ -165,7 +167,9 @@ opened_is_state spelling v log tables image opens are =
               (tables_sound spelling v.rows tables image (version_levelled v is) are);
           area = opens.area;
           area_is = opens.area_is;
+          entries = log;
           log = opens.log;
+          sets = refl;
           no_job = refl;
           none_kept = refl;
         };

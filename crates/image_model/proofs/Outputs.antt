@@ -1,4 +1,4 @@
--- The tables that an install leaves stand in the pages of some rows.
+-- The tables that an install leaves are in the pages of some rows.
 use Rattle.std.proofs.Common.{List, [], ◌∷◌, ◌++◌, subst, Bool, true, false, cond}
 use Rattle.std.specs.Prelude.{Option, not, filter, fold, ◌==◌}
 use Rattle.std.specs.List.{AllByRecursion, list_any}

@@ -4,7 +4,6 @@ use Rattle.std.proofs.lemmas.Bool.{eq-eqb, eqb-true}
 use Rattle.std.proofs.lemmas.List.{append-nil}
 use Rattle.std.specs.Prelude.{map, Bool, true, false, not, ◌||◌, ◌==◌, None}
 use Rattle.std.specs.List.{AllByRecursion, AllPairs}
-use Rattle.std.specs.Ordering.{is_lt}
 use Rattle.byte_fields.specs.declared.parts.Row.{Row}
 use Rattle.disk_trait.specs.Image.{Image}
 use Rattle.filter_api.specs.Spellings.{Spelling}
@@ -14,13 +13,13 @@ use Rattle.block_model.specs.BlockReading.{block_in}
 use Rattle.block_model.specs.Index.{Index}
 use Rattle.block_model.specs.IndexReading.{index_in}
 use Rattle.block_model.specs.Laws.{joined}
-use Rattle.key_base.specs.ByteOrder.{is_before}
+use Rattle.range_model.specs.Reach.{lies_below, reach}
 use Rattle.block_model.specs.Pages.{first_key, last_key}
 use Rattle.block_model.proofs.Refusals.{not_true, passed}
 use Rattle.manifest_model.specs.Tables.{KeyRange, follows, ranges_after, ranges_fault}
-use Rattle.state_model.specs.Merges.{greatest_key, least_key}
+use Rattle.state_model.specs.Merges.{LiesBelow, greatest_key, least_key}
 use Rattle.state_model.specs.Sound.{StandsBefore}
-use Rattle.table_model.specs.Tables.{Table}
+use Rattle.table_model.specs.Tables.{Table, as_source}
 use Rattle.table_model.specs.Damage.{index_part}
 use Rattle.table_model.specs.Images.{IsTableOf}
 use Rattle.table_model.specs.Pieces.{IsPiece, blocks_in, index_of_pieces, row_of_piece}
@@ -52,7 +51,7 @@ greatest_is (p ∷ next ∷ later) each =
 
 -- the range of a table
 abbrev pub range_of_table : Table → KeyRange
-range_of_table t = record { level = t.level; least = least_key t; greatest = greatest_key t }
+range_of_table t = record { level = t.level; least = least_key t; greatest = greatest_key t; reach = reach t.ranges }
 
 range_is : (spelling : Spelling) (row : Row) (t : Table) (image : Image) → IsTableOf spelling row t image → key_range_of image row ≡ range_of_table t
 range_is spelling row t image is =
@@ -62,7 +61,8 @@ range_is spelling row t image is =
     let least : (index_in (index_part row image)).least ≡ least_key t = ap (λ (x : Index). x.least) read ∙ least_of_index pieces ∙ ap (λ (bs : List (List Entry)). first_key (joined bs)) is.1.read ∙ sym (ap least_key is.2) in
     let greatest : greatest_in (index_in (index_part row image)).rows ≡ greatest_key t =
     ap (λ (x : Index). greatest_in x.rows) read ∙ ap greatest_in (rows_of_index pieces) ∙ greatest_is pieces is.1.each ∙ ap (λ (bs : List (List Entry)). last_key (joined bs)) is.1.read ∙ sym (ap greatest_key is.2) in
-    λ i. record { level = level i; least = least i; greatest = greatest i }
+    let end : [] ≡ reach t.ranges = sym (ap (λ (u : Table). reach u.ranges) is.2) in
+    λ i. record { level = level i; least = least i; greatest = greatest i; reach = end i }
 
 pub ranges_are : (spelling : Spelling) (rows : List Row) (tables : List Table) (image : Image) → AreTablesOf spelling rows tables image
     → map (key_range_of image) rows ≡ map range_of_table tables
@@ -85,17 +85,17 @@ one_of_three false false false (inr (inr p)) = absurd cc
 level_differs : (a b : ℕ) → (a ≡ b → ⊥) → not (a == b) ≡ true
 level_differs a b differ = elim (a == b) as (λ t. (a == b) ≡ t → not t ≡ true) [ true ↦ λ same. absurd (differ (eqb-true a b same)) | false ↦ λ same. refl ] refl
 
-one_of : (t u : Table) → (not (t.level == u.level) ≡ true) ⊎ (((u.level == 0) ≡ true) ⊎ (is_before (greatest_key t) (least_key u) ≡ true)) → follows (range_of_table t) (range_of_table u) ≡ true
-one_of t u which = one_of_three (not (t.level == u.level)) (u.level == 0) (is_before (greatest_key t) (least_key u)) which
+one_of : (t u : Table) → (not (t.level == u.level) ≡ true) ⊎ (((u.level == 0) ≡ true) ⊎ LiesBelow t (least_key u)) → follows (range_of_table t) (range_of_table u) ≡ true
+one_of t u which = one_of_three (not (t.level == u.level)) (u.level == 0) (lies_below (as_source t) (least_key u)) which
 
 in_order : (t u : Table) → StandsBefore t u → follows (range_of_table t) (range_of_table u) ≡ true
 in_order t u (inl less) = one_of t u (inl (level_differs t.level u.level (λ same. omega (arith, less, same))))
 in_order t u (inr deeper) = elim deeper.1 [
   | inl first ↦ one_of t u (inr (inl (eq-eqb u.level 0 (sym deeper.0 ∙ first))))
-  | inr before ↦ one_of t u (inr (inr (ap is_lt before)))
+  | inr before ↦ one_of t u (inr (inr before))
 ]
 
--- each but the first stands behind the one before
+-- each but the first is after the one before
 next_pairs : (t u : Table) (later : List Table) → AllPairs StandsBefore (t ∷ u ∷ later) → StandsBefore t u × AllPairs StandsBefore (u ∷ later)
 next_pairs t u later all = (all 0 1 t (omega arith) (omega arith), λ i j d before within. all (suc i) (suc j) d (omega (arith, before)) (omega (arith, within)))
 

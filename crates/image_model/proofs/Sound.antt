@@ -16,6 +16,8 @@ use Rattle.log_model.specs.Area.{area_size, start_of}
 use Rattle.log_model.proofs.Logs.{size_is}
 use Rattle.block_model.specs.BlockReading.{block_in}
 use Rattle.block_model.specs.Index.{IsIndexRow}
+use Rattle.block_model.specs.Laws.{joined}
+use Rattle.block_model.specs.Order.{is_any}
 use Rattle.block_model.specs.Pages.{pages_for}
 use Rattle.block_model.specs.Places.{pages_of}
 use Rattle.extent_model.specs.Extents.{AreApart, Extent, IsOnDevice}
@@ -26,7 +28,10 @@ use Rattle.manifest_model.specs.Version.{Version}
 use Rattle.state_model.specs.Sound.{IsSound, IsSoundTable, MayRun}
 use Rattle.state_model.specs.State.{Job, State, written_by}
 use Rattle.state_model.specs.Taken.{extent_of, taken}
+use Rattle.state_model.specs.Logs.{IsLoggedChange, filled_by, recorded}
 use Rattle.state_model.proofs.Places.{IsSmall, blocks_joined_small}
+use Rattle.state_model.proofs.Sayings.{alone_is, rises_follow}
+use Rattle.state_model.proofs.SoundLogs.{recorded_sets, sets_logged}
 use Rattle.table_model.specs.Images.{IsTableAt, IsTableOf}
 use Rattle.table_model.specs.Tables.{FilterBytes, Table}
 use Rattle.table_model.specs.Pieces.{IsPiece, blocks_in, piece_pages, row_of_piece}
@@ -64,6 +69,8 @@ table_sound : (spelling : Spelling) (row : Row) (t : Table) (image : Image) → 
 table_sound spelling row t image is of_row = subst IsSoundTable (sym of_row.2) (record {
   level = is.level;
   entries = of_row.1.table;
+  source = alone_is (joined of_row.0) (rises_follow is_any (joined of_row.0) of_row.1.table.rising);
+  bounds = tt;
   blocks = some_blocks spelling row of_row.0 image of_row.1;
   few = blocks_joined_small of_row.0 (subst (AllByRecursion IsSmall) of_row.1.read (small_blocks of_row.1.pieces of_row.1.each));
   settings = is.range.settings;
@@ -133,8 +140,11 @@ module _ (spelling : Spelling) (filter_bytes : FilterBytes) (v : Version) (s : S
   extents : taken s ≡ map extent_of_row v.rows
   extents = named_alone s named.no_job named.none_kept ∙ extents_are spelling v.rows s.tables image named.tables
 
-  log_fits : filled s.log < 262144
-  log_fits = omega (arith, named.log.begins.within, window_size image (start_of named.area) area_size, size_is)
+  log_is : map recorded s.log ≡ named.entries
+  log_is = ap (map recorded) named.sets ∙ recorded_sets named.entries
+
+  log_fits : filled_by s.log < 262144
+  log_fits = omega (arith, ap filled log_is, named.log.begins.within, window_size image (start_of named.area) area_size, size_is)
 
   pub named_sound : IsSound filter_bytes s
   named_sound = record {
@@ -142,7 +152,7 @@ module _ (spelling : Spelling) (filter_bytes : FilterBytes) (v : Version) (s : S
     ratio = ratio;
     device = (omega (arith, named.pages, is.some_pages), omega (arith, named.pages, is.few_pages));
     epoch = (omega (arith, named.epoch, is.some_epoch), omega (arith, named.epoch, is.epoch, last_is));
-    log = named.log.begins.sound;
+    log = subst (AllByRecursion IsLoggedChange) (sym named.sets) (sets_logged named.entries named.log.begins.sound);
     log_fits = log_fits;
     few = omega (arith, same_many spelling v.rows s.tables image named.tables, is.few_tables);
     tables = tables_sound spelling v.rows s.tables image (version_levelled v is) named.tables;

@@ -35,7 +35,7 @@ index_bytes = 0x53 ∷ 0x52 ∷ 0x46 ∷ 0x49 ∷ 1 ∷ 0 ∷ 0 ∷ 0 ∷ 1 ∷ 
 abbrev pub with_a_table : Image
 with_a_table = overwritten (overwritten zeros 786432 a_and_ab_bytes) 790528 index_bytes
 
--- the row of that table, with so many entries; its filter is of 45 bytes
+-- the row of that table, with a given number of entries; its filter is of 45 bytes
 abbrev pub row_of : ℕ → Row
 row_of entries = record (table 0 192) { entries = entries; index_sum = 15705594334158475928; filter_sum = 17814397539202711727 }
 

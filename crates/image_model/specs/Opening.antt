@@ -16,6 +16,7 @@ use Rattle.block_model.specs.Index.{IndexRow}
 use Rattle.block_model.specs.IndexReading.{index_in}
 use Rattle.block_model.specs.Places.{byte_of_page}
 use Rattle.entry_model.specs.Entries.{Entry}
+use Rattle.range_model.specs.Sources.{Sets}
 use Rattle.manifest_model.specs.Slots.{AreSlots, IsCurrent, IsNoStore, IsVersionOf, slots_damage}
 use Rattle.manifest_model.specs.Tables.{KeyRange, ranges_fault}
 use Rattle.manifest_model.specs.Version.{Version, body_place, log_page_of}
@@ -39,7 +40,7 @@ pub record IsOpened (spelling : Spelling) (image : Image) (row : Row) : Type 0 w
   pub index : index_damage row image ≡ None
   pub filter : IsSoundFilter spelling row image
 
--- ---- rule 12 of the manifest: how the tables of a deeper level stand, by their indexes
+-- ---- rule 12 of the manifest: how the tables of a deeper level are there, by their indexes
 
 abbrev pub greatest_in : List IndexRow → Bytes
 greatest_in [] = []
@@ -48,7 +49,12 @@ greatest_in (row ∷ next ∷ later) = greatest_in (next ∷ later)
 
 -- the level of a row, and the least and the greatest key of its index
 abbrev pub key_range_of : Image → Row → KeyRange
-key_range_of image row = record { level = row.level; least = (index_in (index_part row image)).least; greatest = greatest_in (index_in (index_part row image)).rows }
+key_range_of image row = record {
+  level = row.level;
+  least = (index_in (index_part row image)).least;
+  greatest = greatest_in (index_in (index_part row image)).rows;
+  reach = [];
+}
 
 -- ---- what a version names, in this order: the tables; their ranges, where all are opened; the log, where these have no fault
 
@@ -79,7 +85,7 @@ pub record OpensWith (spelling : Spelling) (v : Version) (entries : List Entry) 
 
 -- what is opened then, where the rows' pages spell these tables
 abbrev pub opened_state : Version → List Entry → List Table → State
-opened_state v log tables = record { settings = settings_of v; pages = v.pages; epoch = v.epoch; log = log; tables = tables; job = None; kept = [] }
+opened_state v log tables = record { settings = settings_of v; pages = v.pages; epoch = v.epoch; log = map Sets log; tables = tables; job = None; kept = [] }
 
 -- ---- laws
 
@@ -96,10 +102,12 @@ OpenedHasNoDamage =
     (spelling : Spelling) (first_fault : Bytes → FilterFault) (v : Version) (log : List Entry) (image : Image) (d : Damage) → SpellsOne spelling
     → OpensWith spelling v log image → FirstDamage spelling first_fault image d → ⊥
 
--- An image that stands for a state opens with its log, and one that opens stands for a state where each row's pages spell a
+-- An image that stands for a state opens with the entries of its log, and one that opens stands for a state where each row's pages spell a
 -- table.
 abbrev pub StateOpens : Type 0
-StateOpens = (spelling : Spelling) (s : State) (image : Image) → IsStateOf spelling s image → (v : Version) × OpensWith spelling v s.log image
+StateOpens =
+    (spelling : Spelling) (s : State) (image : Image) → IsStateOf spelling s image
+    → (v : Version) × (log : List Entry) × OpensWith spelling v log image × (s.log ≡ map Sets log)
 
 abbrev pub OpenedIsState : Type 0
 OpenedIsState =

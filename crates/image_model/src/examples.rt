@@ -21,7 +21,7 @@ ghost use Rattle.image_model.specs.NewStores.{IsFormatted, new_version};
 ghost use Rattle.image_model.specs.Opening.{FirstDamage};
 ghost use Rattle.image_model.specs.Stands.{IsGate, UnnamedStand, as_shown, settings_of};
 
-/// Bytes that stand, and a new store on 512 pages, with filters that keep no suffix bits.
+/// Bytes that are there, and a new store on 512 pages, with filters that keep no suffix bits.
 #[tactic(auto)]
 pub fn new_stores()
     ensures three_bytes_stand { Shows 2 (2 ∷ 3 ∷ 4 ∷ []) (λ place. place) }
@@ -38,7 +38,7 @@ pub fn devices_of_one_byte()
     ensures of_ones { (spelling : Spelling) (first_fault : Bytes → FilterFault) → FirstDamage spelling first_fault (λ place. 1) (Shape Manifest 8 1) }
 {}
 
-/// No table stands on a device of zeros, also none that is kept.
+/// No table is on a device of zeros, also none that is kept.
 #[tactic(auto)]
 pub fn tables_that_are_kept()
     ensures a_new_store_has_none { (spelling : Spelling) → UnnamedStand spelling (new_state (settings_of formatted) 512) (λ place. 0) }

@@ -77,8 +77,8 @@ module _ (tells : Bool) (tables : List Opened) (first old new : LateMerge) (befo
     pub fails_then : (why : TableFault) → FailsOn tells tables old new mid after why → FailsOn tells tables first new before after why
     fails_then why two = record {
       none = two.none;
-      met = let many = lengths_are old.merge.walks first.merge.walks one.numbers_are in omega (arith, many, two.met);
-      taken = two.taken;
+      only_if_read = let many = lengths_are old.merge.walks first.merge.walks one.numbers_are in omega (arith, many, two.only_if_read);
+      never_memory = two.never_memory;
       cause =
           let is = two.cause in (
             is.0,
@@ -91,9 +91,9 @@ module _ (tells : Bool) (tables : List Opened) (first old new : LateMerge) (befo
             subst (λ (ns : List ℕ). Contains ns is.0) one.numbers_are is.1,
             (is.2.0, is.2.1, is.2.2, is.2.3, subst (λ (h : Image). IsGetFault is.2.0 is.2.1 h why) one.moves.1.held is.2.4),
           );
-      owed = λ t s.
+      only_if_wanted = λ t s.
           let sofar = reads.bounded t s in
-          let some = two.owed t (sound_merge t s) in
+          let some = two.only_if_wanted t (sound_merge t s) in
           let mids = same_wanted old.merge.walks new refl in
           let had = ap (λ (os : List (Option Bytes)). wanted_awake first.merge.floor tables os first.merge.walks) asleep in
           let olds = ap (λ (os : List (Option Bytes)). wanted_awake first.merge.floor tables os old.merge.walks) asleep in

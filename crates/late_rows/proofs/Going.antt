@@ -214,15 +214,15 @@ module _ (tells : Bool) (tables : List Opened) (first old new : LateMerge) (at :
   pub fails_caught : FailsOn tells tables first new before after why
   fails_caught = record {
     none = catches.none;
-    met = let many = lengths_are old.merge.walks first.merge.walks goes.numbers_are in omega (arith, many, lt);
-    taken = failed.taken;
+    only_if_read = let many = lengths_are old.merge.walks first.merge.walks goes.numbers_are in omega (arith, many, lt);
+    never_memory = failed.never_memory;
     cause =
         let is = failed.cause in
         ((walk_in old.merge.walks at).number, number_in, (is.0, is.1, is.2, is.3, cause_since (byte_of_page (page_at is.0 is.1)) before mid after why goes.moves.1.read_faults is.4));
     fault = λ t.
         let is = failed.fault t in
         ((walk_in old.merge.walks at).number, number_in, (is.0, is.1, is.2, is.3, subst (λ (h : Image). IsGetFault is.0 is.1 h why) goes.moves.1.held is.4));
-    owed = λ t s.
+    only_if_wanted = λ t s.
         let most = awake_most (wanted_block_of first.merge.floor tables) old.asleep old.merge.walks at lt awake in
         let sofar = reads.bounded t s in
         let same = ap (λ (os : List (Option Bytes)). wanted_awake first.merge.floor tables os first.merge.walks) asleep in

@@ -81,7 +81,7 @@ module _ (tells : Bool) (tables : List Opened) (key : Bytes) (first old new : La
   entry_row = subst (λ (o : Option Entry). IfSome o IsEntry) (sym its.is) its.chosen.1
 
   passes : RowPasses (Some row) old.merge.floor new.merge.floor
-  passes = chosen_passes old.merge.floor new.merge.floor new.merge.memory old.merge.walks (Some row) its.chosen steps.memory.ready clear
+  passes = chosen_passes old.merge.floor new.merge.floor new.merge.memory old.merge.walks (Some row) its.chosen steps.memory.caught_up clear
 
   -- each sleeper's key is above the row
   behind : (at : ℕ) (other : Bytes) → waking_at old.asleep at ≡ Some other → IsBefore row.key other

@@ -22,9 +22,9 @@ pub record SoFar (tells : Bool) (tables : List Opened) (count : ℕ) (first now 
   pub asleep : now.asleep ≡ first.asleep
   pub goes : GoesOn tells tables first now before after
   pub reads : ReadsOn tells tables first now before after
-  pub ready : IsTrue tells → (at : ℕ) → at < count → at < length now.merge.walks → waking_at now.asleep at ≡ None
+  pub caught_up : IsTrue tells → (at : ℕ) → at < count → at < length now.merge.walks → waking_at now.asleep at ≡ None
       → IsCaughtUp first.merge.floor (walk_in now.merge.walks at).walk.now (walk_left tables before.seen.held (walk_in now.merge.walks at))
-  pub clear : (at : ℕ) → at < count → at < length now.merge.walks → waking_at now.asleep at ≡ None → IsHeadClear first.merge.floor (walk_in now.merge.walks at).walk.now
+  pub heads_pass : (at : ℕ) → at < count → at < length now.merge.walks → waking_at now.asleep at ≡ None → IsHeadClear first.merge.floor (walk_in now.merge.walks at).walk.now
 
 -- one more is asked for it
 module _ (tells : Bool) (tables : List Opened) (count : ℕ) (first old new : LateMerge) (before mid after : World) (sofar : SoFar tells tables count first old before mid)
@@ -45,14 +45,14 @@ module _ (tells : Bool) (tables : List Opened) (count : ℕ) (first old new : La
     asleep = asleep ∙ sofar.asleep;
     goes = goes_caught tells tables first old new count (Ok tt) before mid after sofar.goes asleep awake catches;
     reads = reads_caught tells tables first old new count before mid after sofar.goes sofar.reads asleep awake catches;
-    ready = λ t at lt in_walks none. by_place at lt
+    caught_up = λ t at lt in_walks none. by_place at lt
         (λ less. subst (λ (w : TableWalk). IsCaughtUp first.merge.floor w.walk.now (walk_left tables before.seen.held w)) (sym (same at less))
-        (sofar.ready t at less (omega (arith, less, there)) (still_awake at none)))
+        (sofar.caught_up t at less (omega (arith, less, there)) (still_awake at none)))
         (λ same_place. subst (λ (w : TableWalk). IsCaughtUp first.merge.floor w.walk.now (walk_left tables before.seen.held w)) (sym (its at same_place))
-        (subst (λ (h : Image). IsCaughtUp first.merge.floor catches.walks.to.walk.now (walk_left tables h catches.walks.to)) sofar.goes.moves.1.held (caught.ready t)));
-    clear = λ at lt in_walks none. by_place at lt
-        (λ less. subst (λ (w : TableWalk). IsHeadClear first.merge.floor w.walk.now) (sym (same at less)) (sofar.clear at less (omega (arith, less, there)) (still_awake at none)))
-        (λ same_place. subst (λ (w : TableWalk). IsHeadClear first.merge.floor w.walk.now) (sym (its at same_place)) caught.clear);
+        (subst (λ (h : Image). IsCaughtUp first.merge.floor catches.walks.to.walk.now (walk_left tables h catches.walks.to)) sofar.goes.moves.1.held (caught.caught_up t)));
+    heads_pass = λ at lt in_walks none. by_place at lt
+        (λ less. subst (λ (w : TableWalk). IsHeadClear first.merge.floor w.walk.now) (sym (same at less)) (sofar.heads_pass at less (omega (arith, less, there)) (still_awake at none)))
+        (λ same_place. subst (λ (w : TableWalk). IsHeadClear first.merge.floor w.walk.now) (sym (its at same_place)) caught.heads_pass);
   }
     where
       there : count < length old.merge.walks
@@ -98,8 +98,8 @@ turn_asleep tells tables count first now before mid after sofar idle sleeps = re
   asleep = sofar.asleep;
   goes = goes_idle tells tables first now before mid after sofar.goes idle;
   reads = reads_idle tells tables first now before mid after sofar.reads idle;
-  ready = λ t at lt in_walks none. by_place at lt (λ less. sofar.ready t at less in_walks none) (λ same. awake at same none);
-  clear = λ at lt in_walks none. by_place at lt (λ less. sofar.clear at less in_walks none) (λ same. awake at same none);
+  caught_up = λ t at lt in_walks none. by_place at lt (λ less. sofar.caught_up t at less in_walks none) (λ same. awake at same none);
+  heads_pass = λ at lt in_walks none. by_place at lt (λ less. sofar.heads_pass at less in_walks none) (λ same. awake at same none);
 }
   where
     by_place : {P : Type 0} (at : ℕ) → at < count + 1 → (at < count → P) → (at ≡ count → P) → P
@@ -139,7 +139,7 @@ pub all_clear : (tells : Bool) (tables : List Opened) (count : ℕ) (first now :
 all_clear tells tables count first now before after sofar still many = heads_clear first.merge.floor now.merge.walks (λ at lt. of_key at lt (waking_at now.asleep at) refl)
   where
     of_key : (at : ℕ) → at < length now.merge.walks → (o : Option Bytes) → waking_at now.asleep at ≡ o → IsHeadClear first.merge.floor (walk_in now.merge.walks at).walk.now
-    of_key at lt None is = sofar.clear at (omega (arith, lt, many)) lt is
+    of_key at lt None is = sofar.heads_pass at (omega (arith, lt, many)) lt is
     of_key at lt (Some key) is =
         let on = sofar.goes.sleep_on at key is in
         still_clear first.merge.floor (walk_in now.merge.walks at).walk.now (ap (λ (w : TableWalk). w.walk.now) on.1 ∙ still at key on.0)

@@ -8,7 +8,7 @@ use Rattle.merge_rows.specs.Merges.{TableWalk, left_above, merged_left, walk_lef
 use Rattle.merge_rows.specs.Reads.{OnlyReads, PassSound, SomeBlock, blocks_left, next_blocks}
 use Rattle.merge_rows.specs.Rows.{KeyFloor, above_floor}
 use Rattle.merge_rows.specs.Steps.{AreHeadsClear, AreSoundWalks, IsCaughtUp, IsSoundMerge, numbers, stands}
-use Rattle.table_file.specs.Faults.{HasReadCause, IsNoWant}
+use Rattle.table_file.specs.Faults.{HasReadCause, IsNotMemory}
 use Rattle.table_file.specs.Opened.{Opened}
 use Rattle.table_file.specs.Search.{IsGetFault, page_at}
 use Rattle.table_file.specs.declared.fault.TableFault.{TableFault}
@@ -47,11 +47,11 @@ AwakeCaughtUp floor tables image asleep walks =
 -- A read was refused, with its cause: none was asked for that the next row does not want of those who are awake.
 pub record FailsOn (tells : Bool) (tables : List Opened) (old new : LateMerge) (before after : World) (why : TableFault) : Type 0 where
   pub none : new.merge.now ≡ None
-  pub met : 1 ≤ length old.merge.walks
-  pub taken : IsNoWant why
+  pub only_if_read : 1 ≤ length old.merge.walks
+  pub never_memory : IsNotMemory why
   pub cause : SomeBlock tables (numbers old.merge.walks) (λ t n. HasReadCause (byte_of_page (page_at t n)) before after why)
   pub fault : IsTrue tells → SomeBlock tables (numbers old.merge.walks) (λ t n. IsGetFault t n before.seen.held why)
-  pub owed : IsTrue tells → IsSoundMerge old.merge tables before.seen.held → 1 ≤ wanted_awake old.merge.floor tables new.asleep old.merge.walks
+  pub only_if_wanted : IsTrue tells → IsSoundMerge old.merge tables before.seen.held → 1 ≤ wanted_awake old.merge.floor tables new.asleep old.merge.walks
   pub bounded : IsTrue tells → IsSoundMerge old.merge tables before.seen.held
       → after.seen.reads ≤ before.seen.reads + wanted_awake old.merge.floor tables new.asleep old.merge.walks
   pub tried : IsTrue tells → IsSoundMerge old.merge tables before.seen.held → after.seen.reads ≤ before.seen.reads + blocks_left tables old.merge.walks
@@ -61,6 +61,6 @@ pub record AwakeCatchUp (tells : Bool) (tables : List Opened) (old new : LateMer
   pub asleep : new.asleep ≡ old.asleep
   pub goes : GoesOn tells tables old new before after
   pub reads : OnOk result (ReadsOn tells tables old new before after)
-  pub ready : IsTrue tells → OnOk result (AwakeCaughtUp old.merge.floor tables before.seen.held new.asleep new.merge.walks)
-  pub clear : OnOk result (AreHeadsClear old.merge.floor new.merge.walks)
+  pub caught_up : IsTrue tells → OnOk result (AwakeCaughtUp old.merge.floor tables before.seen.held new.asleep new.merge.walks)
+  pub heads_pass : OnOk result (AreHeadsClear old.merge.floor new.merge.walks)
   pub fails : IfErr result (FailsOn tells tables old new before after)

@@ -12,7 +12,7 @@ ghost use Rattle.map_model.specs.SortedMap.{Bytes};
 ghost use Rattle.merge_rows.specs.CatchingUp.{AdvancesBefore, CatchesUpAt};
 ghost use Rattle.merge_rows.specs.Reads.{AreAtEnd, HaveReadAll, OnlyReads, PassSound, SomeBlock, blocks_left, next_blocks};
 ghost use Rattle.merge_rows.specs.Steps.{AreHeadsClear, AreNumbersIn, AreWalksIn, IsLeastRow, numbers, stands};
-ghost use Rattle.table_file.specs.Faults.{HasReadCause, IsNoWant};
+ghost use Rattle.table_file.specs.Faults.{HasReadCause, IsNotMemory};
 ghost use Rattle.table_file.specs.Search.{IsGetFault, page_at};
 
 use crate::next::next_of;
@@ -103,14 +103,14 @@ impl<'m> LateRows<'m> {
         ensures above { OnOk result (IfSome self.new.merge.now (λ row. SleepAbove row.key self.new.asleep)) }
         ensures least { OnOk result (IsLeastRow self.new.merge) }
         ensures read_all { OnOk result (IsNext self.new.asleep None → HaveReadAll tables.now.tables self.new.merge.walks) }
-        ensures met { OnErr result (1 ≤ length self.old.merge.walks) }
-        ensures owed { IsTrue D.tells → IsSoundLate self.old tables.now.tables (D.world disk.old).seen.held
+        ensures only_if_read { OnErr result (1 ≤ length self.old.merge.walks) }
+        ensures only_if_wanted { IsTrue D.tells → IsSoundLate self.old tables.now.tables (D.world disk.old).seen.held
             → OnErr result (1 ≤ wanted_awake self.old.merge.floor tables.now.tables self.new.asleep self.old.merge.walks) }
         ensures bounded { IsTrue D.tells → IsSoundLate self.old tables.now.tables (D.world disk.old).seen.held
             → ReadMoves (wanted_awake self.old.merge.floor tables.now.tables self.new.asleep self.old.merge.walks) (D.world disk.old) (D.world disk.new) }
         ensures read_sound { IsTrue D.tells → PassSound tables.now.tables (D.world disk.old).seen.held self.old.merge.walks self.new.merge.walks }
         ensures ended { IfOk result (λ some. some ≡ false → IsNext self.new.asleep None × AreAtEnd tables.now.tables self.new.merge.walks) }
-        ensures taken { IfErr result IsNoWant }
+        ensures never_memory { IfErr result IsNotMemory }
         ensures cause { IfErr result (λ why. SomeBlock tables.now.tables (numbers self.old.merge.walks) (λ t n. HasReadCause (byte_of_page (page_at t n)) (D.world disk.old) (D.world disk.new) why)) }
         ensures fault { IsTrue D.tells → IfErr result (λ why. SomeBlock tables.now.tables (numbers self.old.merge.walks) (λ t n. IsGetFault t n (D.world disk.old).seen.held why)) }
         ensures moves { OnlyReads (D.world disk.old) (D.world disk.new) }
@@ -191,7 +191,7 @@ impl<'m> LateRows<'m> {
     // Takes the least of the entries at hand as the row at hand where it is below the waking key of a sleeper.
     fn comes_before(&mut self, sleeper: usize) -> bool
         requires sleeps { is_some (waking_at self.old.asleep sleeper) ≡ true }
-        requires clear { AreHeadsClear self.old.merge.floor self.old.merge.walks }
+        requires heads_pass { AreHeadsClear self.old.merge.floor self.old.merge.walks }
         ensures asleep { self.new.asleep ≡ self.old.asleep }
         ensures still { AreStill self.old.asleep self.old.merge.walks }
         ensures before { (key : Bytes) → waking_at self.old.asleep sleeper ≡ Some key → AdvancesBefore key self.old.merge self.new.merge result }

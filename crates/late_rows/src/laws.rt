@@ -1,15 +1,12 @@
 //! The law of merges that open tables late; the function does nothing.
 ghost use Rattle.late_rows.specs.Laws.{StandingSleepers};
 
-use merge_rows::standing_tables_are_merged;
-use table_file::standing_tables_are_read;
-
 /// Law: where tables stand on a device and none has an entry from the bound on below its waking key, the merge is sound, and
 /// its rows are the newest entries of memory and tables, those of tables that sleep too.
 pub fn standing_tables_sleep()
     ensures { StandingSleepers }
 {
     // the laws of the layers below: of a merge that opens all at once, and of a walk over one table
-    standing_tables_are_merged();
-    standing_tables_are_read();
+    merge_rows::laws::standing_tables_are_merged();
+    table_file::laws::standing_tables_are_read();
 }

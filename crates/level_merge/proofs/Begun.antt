@@ -1,4 +1,4 @@
--- A merge of tables that stand on a device, as it begins.
+-- A merge of tables that are on a device, as it begins.
 use Rattle.std.proofs.Common.{◌≡◌, ◌∙◌, ℕ, zero, suc, ◌+◌, ◌-◌, ◌<◌, ◌≤◌, Bool, true, false, cond, not, List, [], ◌∷◌, ◌++◌, length, map, refl, sym, ap, ap₂, subst, arith}
 use Rattle.std.specs.Prelude.{◌||◌, Option, Some, None, nat_lt, slice_get}
 use Rattle.std.specs.List.{AllByRecursion, list_any, position_or_len, prefix_len, sum_by}
@@ -23,6 +23,7 @@ use Rattle.level_merge.specs.Plans.{numbered}
 use Rattle.level_merge.proofs.Flushed.{all_later}
 use Rattle.level_merge.proofs.OutputLists.{none_built}
 use Rattle.map_model.specs.SortedMap.{Bytes}
+use Rattle.range_model.specs.Sources.{Source}
 use Rattle.merge_rows.specs.Laws.{NumberedStand, StandingMerges, memory_entries}
 use Rattle.merge_rows.specs.Merges.{merge_from, row_count, rows_left, walk_at}
 use Rattle.merge_rows.specs.Reads.{blocks_left, blocks_left_in}
@@ -30,10 +31,11 @@ use Rattle.merge_rows.specs.Rows.{merged_rows}
 use Rattle.merge_rows.specs.Steps.{numbers}
 use Rattle.merge_rows.proofs.Merged.{merged_rises, merged_says, said_by}
 use Rattle.state_model.specs.Changes.{live_entries}
-use Rattle.state_model.specs.Merges.{is_deepest, lasting, newest_of, outputs_for, outputs_of}
-use Rattle.state_model.specs.Tends.{outstanding, started}
-use Rattle.state_model.specs.View.{memory, oldest_first}
-use Rattle.state_model.proofs.Sayings.{backwards, lists_of, newest-append, newest_again, newest_entries_rise, oldest_first-backwards}
+use Rattle.state_model.specs.Merges.{is_deepest, lasting, outputs_for, outputs_of}
+use Rattle.state_model.specs.View.{memory}
+use Rattle.state_model.specs.WithoutRanges.{HasNoRange, HasOnlyEntries, table_entries}
+use Rattle.state_model.proofs.Sayings.{newest-append, newest_again, newest_entries_rise, source_sound}
+use Rattle.state_model.proofs.WithoutRanges.{live_alone, memory_alone, planned_alone}
 use Rattle.table_file.specs.Laws.{StandingBlocks}
 use Rattle.table_file.specs.Opened.{Opened}
 use Rattle.table_model.specs.Tables.{Table}
@@ -49,18 +51,21 @@ entries_from_all [] = refl
 entries_from_all (e ∷ more) =
     ap (λ (t : Bool). cond (not t) (e ∷ entries_from more []) (entries_from more [])) (never_before e.key) ∙ ap (λ (es : List Entry). e ∷ es) (entries_from_all more)
 
--- of each key the lists say what all of their entries say
-said_backwards : (lists : List (List Entry)) (key : Bytes) → newest (backwards lists) key ≡ said_by lists key
-said_backwards [] key = refl
-said_backwards (entries ∷ older) key = newest-append (backwards older) entries key ∙ ap (option_or (newest entries key)) (said_backwards older key)
+-- the entries of each of some tables
+abbrev lists_of : List Table → List (List Entry)
+lists_of tables = map (λ (t : Table). t.entries) tables
 
-merged_is : (entries : List Entry) (tables : List Table) → merged_rows (entries ∷ lists_of tables) ≡ newest_entries (oldest_first tables ++ entries)
+-- of each key they say what all of their entries say
+said_backwards : (tables : List Table) (key : Bytes) → newest (table_entries tables) key ≡ said_by (lists_of tables) key
+said_backwards [] key = refl
+said_backwards (t ∷ older) key = newest-append (table_entries older) t.entries key ∙ ap (option_or (newest t.entries key)) (said_backwards older key)
+
+merged_is : (entries : List Entry) (tables : List Table) → merged_rows (entries ∷ lists_of tables) ≡ newest_entries (table_entries tables ++ entries)
 merged_is entries tables =
-    one_list (merged_rows (entries ∷ lists_of tables)) (newest_entries (oldest_first tables ++ entries)) (merged_rises (entries ∷ lists_of tables))
-    (newest_entries_rise (oldest_first tables ++ entries))
+    one_list (merged_rows (entries ∷ lists_of tables)) (newest_entries (table_entries tables ++ entries)) (merged_rises (entries ∷ lists_of tables))
+    (newest_entries_rise (table_entries tables ++ entries))
     (λ key. merged_says (entries ∷ lists_of tables) key
-    ∙ sym (lookup_newest (oldest_first tables ++ entries) key ∙ newest-append (oldest_first tables) entries key
-    ∙ ap (option_or (newest entries key)) (ap (λ (es : List Entry). newest es key) (oldest_first-backwards tables) ∙ said_backwards (lists_of tables) key)))
+    ∙ sym (lookup_newest (table_entries tables ++ entries) key ∙ newest-append (table_entries tables) entries key ∙ ap (option_or (newest entries key)) (said_backwards tables key)))
 
 -- the newest of some entries, in the place of them all
 newest_of_newest : (older log : List Entry) → newest_entries (older ++ newest_entries log) ≡ newest_entries (older ++ log)
@@ -104,13 +109,14 @@ module _ (spelling : Spelling) (opened : List Opened) (tables : List Table) (ima
     blocks : List (List (List Entry))
     stand : NumberedStand spelling opened image which blocks
     entries : map (λ (b : List (List Entry)). joined b) blocks ≡ lists_of inputs
+    no_ranges : AllByRecursion HasNoRange inputs
 
   first_named : (number : ℕ) (which : List ℕ) (t : Table) (inputs : List Table) → map (numbered tables) (number ∷ which) ≡ map (λ (t : Table). Some t) (t ∷ inputs)
       → (numbered tables number ≡ Some t) × (map (numbered tables) which ≡ map (λ (t : Table). Some t) inputs)
   first_named number which t inputs same = (cc, cc)
 
   all_stand : (which : List ℕ) (inputs : List Table) → map (numbered tables) which ≡ map (λ (t : Table). Some t) inputs → StandWith which inputs
-  all_stand [] [] same = record { blocks = []; stand = tt; entries = refl }
+  all_stand [] [] same = record { blocks = []; stand = tt; entries = refl; no_ranges = tt }
   all_stand [] (t ∷ inputs) same = absurd cc
   all_stand (number ∷ which) [] same = absurd cc
   all_stand (number ∷ which) (t ∷ inputs) same =
@@ -121,6 +127,7 @@ module _ (spelling : Spelling) (opened : List Opened) (tables : List Table) (ima
         blocks = here.2.blocks ∷ rest.blocks;
         stand = ((here.0, here.1, here.2.stands), rest.stand);
         entries = ap₂ (λ (x : List Entry) (l : List (List Entry)). x ∷ l) (sym (ap (λ (u : Table). u.entries) here.2.table_is)) rest.entries;
+        no_ranges = (ap (λ (u : Table). u.ranges) here.2.table_is, rest.no_ranges);
       }
 
   -- ---- what it makes
@@ -128,17 +135,17 @@ module _ (spelling : Spelling) (opened : List Opened) (tables : List Table) (ima
   pub begins : StandingMerges → (settings : Settings) (inputs : List Table) (which : List ℕ) (entries : Option (List Entry)) (output : ℕ) (drops : Bool)
       → map (numbered tables) which ≡ map (λ (t : Table). Some t) inputs → KeysRise (memory_entries entries)
       → OutputsLeft spelling opened image (merge_of which entries output drops settings opened)
-      (outputs_of (length which - 1) (lasting drops (newest_entries (oldest_first inputs ++ memory_entries entries)))) []
+      (outputs_of (length which - 1) (lasting drops (newest_entries (table_entries inputs ++ memory_entries entries)))) []
   begins merges settings inputs which entries output drops same rise =
       let stand = all_stand which inputs same in
       let whole = merges spelling opened image which stand.blocks entries [] false stand.stand rise in
-      let rows : rows_left (merge_from which opened entries [] false) opened image ≡ newest_entries (oldest_first inputs ++ memory_entries entries) =
+      let rows : rows_left (merge_from which opened entries [] false) opened image ≡ newest_entries (table_entries inputs ++ memory_entries entries) =
       whole.rows ∙ entries_from_all (merged_rows (memory_entries entries ∷ map (λ (b : List (List Entry)). joined b) stand.blocks))
       ∙ ap (λ (lists : List (List Entry)). merged_rows (memory_entries entries ∷ lists)) stand.entries ∙ merged_is (memory_entries entries) inputs in
       record {
         sound = whole.sound;
         left_are = ap (λ (l : List Entry). outputs_with (length which - 1) [] (lasting drops l)) rows
-            ∙ none_built (length which - 1) (lasting drops (newest_entries (oldest_first inputs ++ memory_entries entries)));
+            ∙ none_built (length which - 1) (lasting drops (newest_entries (table_entries inputs ++ memory_entries entries)));
         rows = refl;
         made_are = tt;
       }
@@ -211,14 +218,17 @@ begun_follows merges standing spelling s opened image p plan held may is =
     let made = begins spelling opened s.tables image held merges s.settings plan.inputs p.inputs None p.output drops is.0 tt in
     let deepest : drops ≡ is_deepest s.tables plan.output =
     ap not (deepest_held spelling opened s.tables image p.output held ∙ ap (λ (n : ℕ). list_any (λ (t : Table). nat_lt n t.level) s.tables) is.1) in
-    let left : outputs_of (length p.inputs - 1) (lasting drops (newest_entries (oldest_first plan.inputs ++ []))) ≡ outstanding s.tables (started plan) =
-    ap₂ (λ (n : ℕ) (es : List Entry). outputs_of (n - 1) (lasting drops (newest_entries es))) (many_named s.tables p.inputs plan.inputs is.0) (append-nil (oldest_first plan.inputs))
-    ∙ ap (λ (d : Bool). outputs_of (length plan.inputs - 1) (lasting d (newest_of plan.inputs))) deepest in
+    let outputs = outputs_for plan.inputs (lasting (is_deepest s.tables plan.output) (newest_entries (table_entries plan.inputs))) in
+    let left : outputs_of (length p.inputs - 1) (lasting drops (newest_entries (table_entries plan.inputs ++ []))) ≡ outputs =
+    ap₂ (λ (n : ℕ) (es : List Entry). outputs_of (n - 1) (lasting drops (newest_entries es))) (many_named s.tables p.inputs plan.inputs is.0) (append-nil (table_entries plan.inputs))
+    ∙ ap (λ (d : Bool). outputs_of (length plan.inputs - 1) (lasting d (newest_entries (table_entries plan.inputs)))) deepest in
     record {
       settings = refl;
       inputs = ap (map (numbered s.tables)) (numbers_are spelling opened s.tables image held p.inputs []) ∙ is.0;
       output = is.1;
       to_read = all_read spelling opened s.tables image held standing p.inputs plan.inputs is.0;
+      left = outputs;
+      left_are = planned_alone s.tables plan (all_stand spelling opened s.tables image held p.inputs plan.inputs is.0).no_ranges;
       makes = subst (λ (outputs : List (List Entry)). OutputsLeft spelling opened image (begun p s.settings opened) outputs []) left made;
     }
 
@@ -236,10 +246,14 @@ all_named (t ∷ tables) =
     (all_later t tables (all_numbers (length tables)) (numbers_below (length tables) (length tables) (omega arith)) ∙ all_named tables)
 
 pub compaction_makes : StandingMerges → CompactionMakes
-compaction_makes merges spelling s opened image held =
+compaction_makes merges spelling s entries opened image sets held =
     let many = as_many spelling opened s.tables image held in
     let named = subst (λ (n : ℕ). map (numbered s.tables) (all_numbers n) ≡ map (λ (t : Table). Some t) s.tables) (sym many) (all_named s.tables) in
-    let made = begins spelling opened s.tables image held merges s.settings s.tables (all_numbers (length opened)) (Some (memory s)) 6 true named (newest_entries_rise s.log) in
-    let left : outputs_of (length (all_numbers (length opened)) - 1) (lasting true (newest_entries (oldest_first s.tables ++ memory s))) ≡ outputs_for s.tables (live_entries s) =
-    ap₂ (λ (n : ℕ) (es : List Entry). outputs_of (n - 1) (lasting true es)) (many_named s.tables (all_numbers (length opened)) s.tables named) (newest_of_newest (oldest_first s.tables) s.log) in
+    let made = begins spelling opened s.tables image held merges s.settings s.tables (all_numbers (length opened)) (Some (memory s)) 6 true named (source_sound s.log).rises in
+    let alone_are : HasOnlyEntries s entries = record { log = sets; tables = (all_stand spelling opened s.tables image held (all_numbers (length opened)) s.tables named).no_ranges } in
+    let live : newest_entries (table_entries s.tables ++ memory s) ≡ newest_entries (table_entries s.tables ++ entries) =
+    ap (λ (source : Source). newest_entries (table_entries s.tables ++ source.entries)) (memory_alone s entries alone_are) ∙ newest_of_newest (table_entries s.tables) entries in
+    let left : outputs_of (length (all_numbers (length opened)) - 1) (lasting true (newest_entries (table_entries s.tables ++ memory s))) ≡ outputs_for s.tables (live_entries s) =
+    ap₂ (λ (n : ℕ) (es : List Entry). outputs_of (n - 1) (lasting true es)) (many_named s.tables (all_numbers (length opened)) s.tables named) live
+    ∙ ap (outputs_for s.tables) (sym (live_alone s entries alone_are)) in
     subst (λ (outputs : List (List Entry)). OutputsLeft spelling opened image (compaction (memory s) s.settings opened) outputs []) left made

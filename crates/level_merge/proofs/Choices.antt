@@ -44,7 +44,7 @@ names_first o opened t tables agrees many =
     record {
       less = omega arith;
       named = subst (λ n. slice_get (t ∷ tables) n ≡ Some t) (sym here) refl;
-      like = record { level = agrees.level; pages = agrees.pages; least = agrees.least; greatest = agrees.greatest };
+      like = record { level = agrees.level; pages = agrees.pages; least = agrees.least; greatest = agrees.greatest; ranges = sym agrees.no_range };
     }
 
 pub outlines_name : (opened : List Opened) (tables : List Table) → Agree opened tables → Each (Names tables) (outlines opened) tables
@@ -81,7 +81,7 @@ pub record IsThere (many : ℕ) (t u : Table) : Type 0 where
   pub same : t ≡ u
 
 there_like : (many : ℕ) → Likens (IsThere many)
-there_like many t u there = subst (IsLike t) there.same (record { level = refl; pages = refl; least = refl; greatest = refl })
+there_like many t u there = subst (IsLike t) there.same (record { level = refl; pages = refl; least = refl; greatest = refl; ranges = refl })
 
 there_weaker : (many : ℕ) (ts us : List Table) → Each (IsThere many) ts us → Each (IsThere (suc many)) ts us
 there_weaker many [] [] each = tt

@@ -1,4 +1,4 @@
--- A merge that follows a job does so once a table of level 0 stands before all others.
+-- A merge that follows a job does so once a table of level 0 is before all others.
 use Rattle.std.proofs.Common.{◌≡◌, ℕ, suc, ◌+◌, ◌-◌, ◌<◌, List, [], ◌∷◌, length, map, drop, refl, sym, ap, ap₂, ◌∙◌, subst, false, arith}
 use Rattle.std.specs.Prelude.{◌||◌, not, nat_lt, slice_get, Option}
 use Rattle.std.specs.List.{AllByRecursion, list_any}
@@ -11,7 +11,7 @@ use Rattle.merge_rows.specs.Merges.{Merge, TableWalk, blocks_in, left_above, mer
 use Rattle.merge_rows.specs.Reads.{blocks_left, blocks_left_in}
 use Rattle.merge_rows.specs.Rows.{KeyFloor, merged_rows, rows_shown}
 use Rattle.merge_rows.specs.Steps.{AreSoundWalks, IsSoundWalk, numbers}
-use Rattle.state_model.specs.Merges.{is_deepest, lasting, newest_of, outputs_for}
+use Rattle.state_model.specs.Merges.{cut_for, is_deepest, lasting, lasting_of, merged_of}
 use Rattle.state_model.specs.State.{Job}
 use Rattle.state_model.specs.Tends.{outstanding}
 use Rattle.table_file.specs.Opened.{Opened}
@@ -66,7 +66,7 @@ deepest_later t tables output level =
 
 pub outstanding_later : (t : Table) (tables : List Table) (job : Job) → t.level ≡ 0 → outstanding (t ∷ tables) job ≡ outstanding tables job
 outstanding_later t tables job level =
-    ap (λ b. drop (length job.written) (outputs_for job.inputs (lasting b (newest_of job.inputs)))) (deepest_later t tables job.output level)
+    ap (λ b. drop (length job.written) (cut_for job.inputs (lasting_of b (merged_of job.inputs)))) (deepest_later t tables job.output level)
 
 pub flush_follows : FlushedIsFollowed
 flush_follows spelling s after opened new t image m job level there many settings tables follows =
@@ -77,10 +77,11 @@ flush_follows spelling s after opened new t image m job level there many setting
           ∙ all_later t s.tables (numbers m.merge.walks) (subst (λ (n : ℕ). AllByRecursion (λ number. number < n) (numbers m.merge.walks)) many there) ∙ follows.inputs;
       output = follows.output;
       to_read = blocks_later new opened m.merge.walks there ∙ follows.to_read;
+      left = follows.left;
+      left_are = ap (λ (ts : List Table). outstanding ts job) tables ∙ outstanding_later t s.tables job level ∙ follows.left_are;
       makes = record {
         sound = record { memory = makes.sound.memory; walks = walks_later new opened image m.merge.floor m.merge.walks there makes.sound.walks };
-        left_are = ap (λ (l : List Entry). outputs_with m.beside m.built (lasting m.drops l)) (rows_later new opened image m.merge there) ∙ makes.left_are
-            ∙ sym (ap (λ (ts : List Table). outstanding ts job) tables ∙ outstanding_later t s.tables job level);
+        left_are = ap (λ (l : List Entry). outputs_with m.beside m.built (lasting m.drops l)) (rows_later new opened image m.merge there) ∙ makes.left_are;
         rows = makes.rows;
         made_are = makes.made_are;
       };

@@ -1,6 +1,6 @@
 -- A merge that follows a job goes on as what it makes goes on.
 use Rattle.std.proofs.Common.{◌≡◌, ◌≢◌, inl, inr, ℕ, ◌≤◌, ◌<◌, List, [], ◌∷◌, ◌++◌, length, map, take, drop, refl, sym, ap, ap₂, ◌∙◌, subst, arith, append_assoc}
-use Rattle.std.specs.Prelude.{Some, None, Ok, Err, Result, IsOk}
+use Rattle.std.specs.Prelude.{Option, Some, None, Ok, Err, Result, IsOk}
 use Rattle.std.specs.List.Sorted.{IsPermutation}
 use Rattle.std.proofs.lemmas.List.{append-nil, drop-drop, length_push, map-append}
 use Rattle.disk_trait.specs.Image.{Image}
@@ -15,7 +15,7 @@ use Rattle.filter_api.specs.Spellings.{Spelling}
 use Rattle.filter_api.specs.declared.settings.Settings.{Settings}
 use Rattle.level_merge.specs.Follows.{AreTaken, Follows, FollowsAnyJob, IsJobRefusal, IsSliced, JobProgress, ProgressOrRefusal}
 use Rattle.store_search.specs.TablesAgree.{TablesAgree}
-use Rattle.level_merge.specs.Making.{AnswersProgress, AreTakenBy, FirstOutput, GoesOn, HasPlace, IsMakeRefusal, IsMoreLeft, MakesAnyOutputs, OneOutput, OutputsLeft, merge_extents}
+use Rattle.level_merge.specs.Making.{AnswersProgress, GoesOn, HasPlace, IsMakeRefusal, IsMoreLeft, MakesAnyOutputs, OneOutput, merge_extents}
 use Rattle.level_merge.specs.JobValue.{JobValue}
 use Rattle.level_merge.specs.Plans.{numbered}
 use Rattle.level_merge.specs.Outputs.{extent_at}
@@ -24,7 +24,8 @@ use Rattle.level_merge.specs.declared.fault.JobFault.TheVariants as fault
 use Rattle.level_merge.specs.declared.fault.Sliced.{Sliced}
 use Rattle.level_merge.specs.declared.fault.Sliced.TheVariants as sliced
 use Rattle.merge_rows.specs.Reads.{blocks_left}
-use Rattle.state_model.specs.Merges.{NoRoom, placed, planned}
+use Rattle.range_model.specs.Sources.{Source, alone}
+use Rattle.state_model.specs.Merges.{NoRoom, at_page, before, placed, planned}
 use Rattle.state_model.specs.Sound.{plan_of_job}
 use Rattle.state_model.specs.State.{Job, State}
 use Rattle.state_model.specs.Taken.{extent_of, taken}
@@ -34,11 +35,11 @@ use Rattle.table_model.specs.Tables.{FilterBytes, Table, table_of, table_pages}
 
 -- ---- outputs of a job
 
--- what is outstanding behind one output more are the others
-others_outstanding : (tables : List Table) (job later : Job) (t : Table) (output : List Entry) (others : List (List Entry)) → later.inputs ≡ job.inputs → later.output ≡ job.output
+-- what is outstanding after one output more are the others
+others_outstanding : (tables : List Table) (job later : Job) (t : Table) (output : Source) (others : List Source) → later.inputs ≡ job.inputs → later.output ≡ job.output
     → later.written ≡ job.written ++ t ∷ [] → outstanding tables job ≡ output ∷ others → outstanding tables later ≡ others
 others_outstanding tables job later t output others inputs level written first =
-    ap₂ (λ (n : ℕ) (outputs : List (List Entry)). drop n outputs) (ap length written ∙ length_push job.written t) (same_planned tables job later inputs level)
+    ap₂ (λ (n : ℕ) (outputs : List Source). drop n outputs) (ap length written ∙ length_push job.written t) (same_planned tables job later inputs level)
     ∙ sym (drop-drop 1 (length job.written) (planned tables (plan_of_job job)))
     ∙ ap (drop 1) first
   where
@@ -47,19 +48,30 @@ others_outstanding tables job later t output others inputs level written first =
 
 same_outstanding : (tables : List Table) (job later : Job) → later.inputs ≡ job.inputs → later.output ≡ job.output → later.written ≡ job.written → outstanding tables later ≡ outstanding tables job
 same_outstanding tables job later inputs level written =
-    ap₂ (λ (n : ℕ) (outputs : List (List Entry)). drop n outputs) (ap length written)
+    ap₂ (λ (n : ℕ) (outputs : List Source). drop n outputs) (ap length written)
     (ap₂ (λ (is : List Table) (n : ℕ). planned tables (record { inputs = is; output = n })) inputs level)
 
 -- the next output has a place, or none
-one_placed : (filter_bytes : FilterBytes) (settings : Settings) (pages : ℕ) (extents : List Extent) (level page : ℕ) (output : List Entry)
-    → first_gap pages extents (table_pages filter_bytes settings output) ≡ Some page
-    → placed filter_bytes settings pages extents level (output ∷ []) ≡ Ok (table_of filter_bytes settings level page output ∷ [])
-one_placed filter_bytes settings pages extents level page output gap = rw gap refl
+module _ (filter_bytes : FilterBytes) (settings : Settings) (pages : ℕ) (extents : List Extent) (level : ℕ) (output : List Entry) where
+  abbrev refusal : NoRoom
+  refusal = record { need = table_pages filter_bytes settings output; gap = largest_gap pages extents }
 
-none_placed : (filter_bytes : FilterBytes) (settings : Settings) (pages : ℕ) (extents : List Extent) (level : ℕ) (output : List Entry)
-    → first_gap pages extents (table_pages filter_bytes settings output) ≡ None
-    → placed filter_bytes settings pages extents level (output ∷ []) ≡ Err (record { need = table_pages filter_bytes settings output; gap = largest_gap pages extents })
-none_placed filter_bytes settings pages extents level output gap = rw gap refl
+  at_gap : (page : Option ℕ) → first_gap pages extents (table_pages filter_bytes settings output) ≡ page
+      → placed filter_bytes settings pages extents level (alone output ∷ []) ≡ at_page page (λ (n : ℕ). before (table_of filter_bytes settings level n output) (Ok [])) refusal
+  at_gap page gap = ap (λ (o : Option ℕ). at_page o (λ (n : ℕ). before (table_of filter_bytes settings level n output) (Ok [])) refusal) gap
+
+  one_placed : (page : ℕ) → first_gap pages extents (table_pages filter_bytes settings output) ≡ Some page
+      → placed filter_bytes settings pages extents level (alone output ∷ []) ≡ Ok (table_of filter_bytes settings level page output ∷ [])
+  one_placed page gap = at_gap (Some page) gap
+
+  none_placed : first_gap pages extents (table_pages filter_bytes settings output) ≡ None
+      → placed filter_bytes settings pages extents level (alone output ∷ []) ≡ Err (record { need = table_pages filter_bytes settings output; gap = largest_gap pages extents })
+  none_placed gap = at_gap None gap
+
+-- outputs without ranges are none where there is none
+none_alone : (outputs : List (List Entry)) → map alone outputs ≡ [] → outputs ≡ []
+none_alone [] none = refl
+none_alone (output ∷ more) none = absurd cc
 
 -- ---- extents
 
@@ -91,16 +103,16 @@ module _ (spelling : Spelling) (filter_bytes : FilterBytes) (s : State) (job : J
       ap₂ (λ (n : ℕ) (set : Settings). first_gap n (taken (with_job s job)) (table_pages filter_bytes set output)) (sym taken_are.pages) (sym follows.settings)
       ∙ sym (first_same free.pages (table_pages filter_bytes old.settings output) free.extents (taken (with_job s job)) taken_are.taken_are)
 
-  has_place : (later : List (List Entry)) (place : HasPlace filter_bytes old.settings free (outstanding s.tables job) later)
+  has_place : (later : List (List Entry)) (place : HasPlace filter_bytes old.settings free follows.left later)
       → next_placed filter_bytes s job 1 ≡ Ok (table_of filter_bytes s.settings job.output place.page place.output ∷ [])
   has_place later place =
-      ap (λ outputs. placed filter_bytes s.settings s.pages (taken (with_job s job)) job.output (take 1 outputs)) place.first
-      ∙ one_placed filter_bytes s.settings s.pages (taken (with_job s job)) job.output place.page place.output (gap_is place.output ∙ place.place)
+      ap (λ outputs. placed filter_bytes s.settings s.pages (taken (with_job s job)) job.output (take 1 outputs)) (follows.left_are ∙ ap (map alone) place.first)
+      ∙ one_placed filter_bytes s.settings s.pages (taken (with_job s job)) job.output place.output place.page (gap_is place.output ∙ place.place)
 
-  no_place : (output : List Entry) (later : List (List Entry)) → outstanding s.tables job ≡ output ∷ later → largest_gap free.pages free.extents < table_pages filter_bytes old.settings output
+  no_place : (output : List Entry) (later : List (List Entry)) → follows.left ≡ output ∷ later → largest_gap free.pages free.extents < table_pages filter_bytes old.settings output
       → next_placed filter_bytes s job 1 ≡ Err (record { need = table_pages filter_bytes s.settings output; gap = largest_gap s.pages (taken (with_job s job)) })
   no_place output later first small =
-      ap (λ outputs. placed filter_bytes s.settings s.pages (taken (with_job s job)) job.output (take 1 outputs)) first
+      ap (λ outputs. placed filter_bytes s.settings s.pages (taken (with_job s job)) job.output (take 1 outputs)) (follows.left_are ∙ ap (map alone) first)
       ∙ none_placed filter_bytes s.settings s.pages (taken (with_job s job)) job.output output
       (gap_is output ∙ gap_small free.pages free.extents (table_pages filter_bytes old.settings output) small)
 
@@ -112,15 +124,15 @@ module _ (spelling : Spelling) (filter_bytes : FilterBytes) (s : State) (job : J
   none_done : Progresses filter_bytes s job job
   none_done = record { inputs = refl; output = refl; to_read = omega arith; more = 0; made = []; placed_so = refl; written = sym (append-nil job.written) }
 
-  some_left : (output : List Entry) (later : List (List Entry)) → outstanding s.tables job ≡ output ∷ later → outstanding s.tables job ≡ [] → ⊥
-  some_left output later first none = empty (sym first ∙ none)
+  some_left : (output : List Entry) (later : List (List Entry)) → follows.left ≡ output ∷ later → outstanding s.tables job ≡ [] → ⊥
+  some_left output later first none = empty (sym (follows.left_are ∙ ap (map alone) first) ∙ none)
     where
-      empty : output ∷ later ≡ [] → ⊥
+      empty : alone output ∷ map alone later ≡ [] → ⊥
       empty same = absurd cc
 
   -- ---- refusals
 
-  refused : (why : JobFault) → IsMakeRefusal filter_bytes opened old (outstanding s.tables job) free before after why → IsJobRefusal filter_bytes s job before after why
+  refused : (why : JobFault) → IsMakeRefusal filter_bytes opened old follows.left free before after why → IsJobRefusal filter_bytes s job before after why
   refused fault.Memory is = tt
   refused (fault.Device cause) (inl read) = inl (read.0, subst (λ (n : ℕ). 0 < n) follows.to_read read.1, read.2)
   refused (fault.Device cause) (inr write) =
@@ -138,19 +150,19 @@ module _ (spelling : Spelling) (filter_bytes : FilterBytes) (s : State) (job : J
       let need_is : need ≡ table_pages filter_bytes s.settings is.0 = is.3 ∙ ap (λ (set : Settings). table_pages filter_bytes set is.0) follows.settings in
       (job, none_done, no_place is.0 is.1 is.2 (small is) ∙ ap₂ (λ (n g : ℕ). Err (record { need = n; gap = g })) (sym need_is) (sym (is.4 ∙ largest_is)))
     where
-      small : (is : IsMakeRefusal filter_bytes opened old (outstanding s.tables job) free before after (fault.Full need gap)) → largest_gap free.pages free.extents < table_pages filter_bytes old.settings is.0
+      small : (is : IsMakeRefusal filter_bytes opened old follows.left free before after (fault.Full need gap)) → largest_gap free.pages free.extents < table_pages filter_bytes old.settings is.0
       small is = let need_is = is.3 in let gap_is = is.4 in let less = is.5 in omega (arith, need_is, gap_is, less)
 
   -- ---- the job goes on
 
-  module _ (on : GoesOn spelling filter_bytes opened s.tables old new (outstanding s.tables job) job.written (map extent_of s.kept) free extents before after) where
+  module _ (on : GoesOn spelling filter_bytes opened s.tables old new follows.left job.written (map extent_of s.kept) free extents before after) where
     abbrev next : Job
     next = record { inputs = job.inputs; output = job.output; to_read = blocks_left opened new.merge.walks; written = on.now }
 
     fewer : blocks_left opened new.merge.walks ≤ job.to_read
     fewer = subst (λ (n : ℕ). blocks_left opened new.merge.walks ≤ n) follows.to_read on.read
 
-    goes_on : OneOutput filter_bytes old free extents (outstanding s.tables job) on.later job.written on.now → Progresses filter_bytes s job next
+    goes_on : OneOutput filter_bytes old free extents follows.left on.later job.written on.now → Progresses filter_bytes s job next
     goes_on (inl same) = record { inputs = refl; output = refl; to_read = fewer; more = 0; made = []; placed_so = refl; written = same.1 ∙ sym (append-nil job.written) }
     goes_on (inr first) = record {
       inputs = refl;
@@ -162,12 +174,13 @@ module _ (spelling : Spelling) (filter_bytes : FilterBytes) (s : State) (job : J
       written = first.made_is ∙ ap₂ (λ (set : Settings) (level : ℕ). job.written ++ table_of filter_bytes set level first.placed.page first.placed.output ∷ []) follows.settings follows.output;
     }
 
-    left_is : OneOutput filter_bytes old free extents (outstanding s.tables job) on.later job.written on.now → on.later ≡ outstanding s.tables next
-    left_is (inl same) = same.0 ∙ sym (same_outstanding s.tables job next refl refl same.1)
+    left_is : OneOutput filter_bytes old free extents follows.left on.later job.written on.now → outstanding s.tables next ≡ map alone on.later
+    left_is (inl same) = same_outstanding s.tables job next refl refl same.1 ∙ follows.left_are ∙ ap (map alone) (sym same.0)
     left_is (inr first) =
-        sym (others_outstanding s.tables job next (table_of filter_bytes old.settings old.output first.placed.page first.placed.output) first.placed.output on.later refl refl first.made_is first.placed.first)
+        others_outstanding s.tables job next (table_of filter_bytes old.settings old.output first.placed.page first.placed.output) (alone first.placed.output) (map alone on.later) refl refl first.made_is
+        (follows.left_are ∙ ap (map alone) first.placed.first)
 
-    pages_are : OneOutput filter_bytes old free extents (outstanding s.tables job) on.later job.written on.now → extents.pages ≡ s.pages
+    pages_are : OneOutput filter_bytes old free extents follows.left on.later job.written on.now → extents.pages ≡ s.pages
     pages_are (inl same) = ap (λ (t : Taken). t.pages) same.2 ∙ taken_are.pages
     pages_are (inr first) = first.pages ∙ taken_are.pages
 
@@ -180,7 +193,9 @@ module _ (spelling : Spelling) (filter_bytes : FilterBytes) (s : State) (job : J
       inputs = ap (map (numbered s.tables)) on.numbers_are ∙ follows.inputs;
       output = on.output ∙ follows.output;
       to_read = refl;
-      makes = subst (λ outputs. OutputsLeft spelling opened after.seen.held new outputs on.now) (left_is on.one) on.makes;
+      left = on.later;
+      left_are = left_is on.one;
+      makes = on.makes;
     }
 
     less_is_other : blocks_left opened new.merge.walks < blocks_left opened old.merge.walks → next ≢ job
@@ -191,12 +206,12 @@ module _ (spelling : Spelling) (filter_bytes : FilterBytes) (s : State) (job : J
 
     not_done : IsMoreLeft opened new on.later → IsDone s.tables next → ⊥
     not_done (inl some) is = let none : blocks_left opened new.merge.walks ≡ 0 = is.all_read in absurd (omega (arith, some, none))
-    not_done (inr some) is = some (left_is on.one ∙ is.all_written)
+    not_done (inr some) is = some (none_alone on.later (sym (left_is on.one) ∙ is.all_written))
 
     other_job : (said : Sliced) → AnswersProgress opened old new on.later job.written on.now said → IsSliced s job next said
     other_job sliced.Working (inl less, more) = (less_is_other less, not_done more)
     other_job sliced.Working (inr longer, more) = (more_is_other longer, not_done more)
-    other_job sliced.Ready is = record { all_read = is.0; all_written = sym (left_is on.one) ∙ is.1 }
+    other_job sliced.Ready is = record { all_read = is.0; all_written = left_is on.one ∙ ap (map alone) is.1 }
 
     done : (said : Sliced) → AnswersProgress opened old new on.later job.written on.now said → JobProgress spelling filter_bytes s job opened old new extents before after said
     done said is = record {
@@ -217,12 +232,12 @@ pub makes_follow : (spelling : Spelling) (filter_bytes : FilterBytes) (opened : 
     → MakesAnyOutputs spelling filter_bytes opened old new free extents result before after → FollowsAnyJob spelling filter_bytes opened old new free extents result before after
 makes_follow spelling filter_bytes opened old new free extents result before after makes s job held follows taken_are =
     let others = taken_with spelling s job opened old.made before.seen.held held follows.makes.made_are in
-    let here = makes s.tables (outstanding s.tables job) job.written (map extent_of s.kept) held follows.makes
+    let here = makes s.tables follows.left job.written (map extent_of s.kept) held follows.makes
     (subst (λ (es : List Extent). IsPermutation free.extents es) others taken_are.taken_are) in
     by_result result here
   where
     by_result : (result : Result Sliced JobFault)
-        → Rattle.level_merge.specs.Making.OutputOrNone spelling filter_bytes opened s.tables old new (outstanding s.tables job) job.written (map extent_of s.kept) free extents result before after
+        → Rattle.level_merge.specs.Making.OutputOrNone spelling filter_bytes opened s.tables old new follows.left job.written (map extent_of s.kept) free extents result before after
         → ProgressOrRefusal spelling filter_bytes s job opened old new extents result before after
     by_result (Ok said) on = done spelling filter_bytes s job opened old new free extents before after follows taken_are on.goes said on.said
     by_result (Err why) is = refused spelling filter_bytes s job opened old new free extents before after follows taken_are why is

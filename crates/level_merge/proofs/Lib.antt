@@ -14,5 +14,5 @@ pub mod Following
 pub mod Begun
 pub mod SliceSteps
 pub mod SliceMoves
-pub mod Slicing
+pub mod SliceProofs
 pub mod Placed

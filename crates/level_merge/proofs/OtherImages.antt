@@ -155,6 +155,8 @@ image_follows standing spelling s opened image other m job here there made follo
       inputs = follows.inputs;
       output = follows.output;
       to_read = follows.to_read;
+      left = follows.left;
+      left_are = follows.left_are;
       makes = record {
         sound = sound_same standing spelling image other opened s.tables here there m.merge makes.sound;
         left_are = sym (outputs_same standing spelling image other opened s.tables here there m) ∙ makes.left_are;

@@ -5,8 +5,11 @@ use Rattle.std.specs.List.{AllByRecursion}
 use Rattle.std.proofs.lemmas.List.{at_drop_more, length-drop}
 use Rattle.block_model.proofs.Bounds.{weaker}
 use Rattle.extent_model.proofs.Lists.{all_kept}
-use Rattle.level_merge.specs.Outlines.{nothing, table_number, outline, outline_of, outlines}
-use Rattle.state_model.specs.Merges.{on_level}
+use Rattle.level_merge.specs.Outlines.{nothing, overlaps, plan_by_keys, table_number, outline, outline_of, outlines}
+use Rattle.state_model.specs.Merges.{greatest_of, least_of, meets, on_level, plan_of}
+use Rattle.state_model.specs.WithoutRanges.{HasNoRange}
+use Rattle.state_model.proofs.Parts.{keep_same}
+use Rattle.state_model.proofs.WithoutRanges.{meets_alone}
 use Rattle.table_file.specs.Opened.{Opened}
 use Rattle.table_model.specs.Tables.{Table}
 
@@ -108,3 +111,17 @@ level_kept level number t e more = ap (λ b. cond b (outline number t ∷ on_lev
 
 pub level_passed : (level number : ℕ) (t : Opened) → (t.row.level ≡ level → ⊥) → (more : List Table) → on_level level (outline number t ∷ more) ≡ on_level level more
 level_passed level number t e more = ap (λ b. cond b (outline number t ∷ on_level level more) (on_level level more)) (other_level t.row.level level e)
+
+-- ---- no outline has a range
+
+pub outlines_alone : (ts : List Opened) → AllByRecursion HasNoRange (outlines ts)
+outlines_alone [] = tt
+outlines_alone (t ∷ later) = (refl, outlines_alone later)
+
+-- so those that are chosen are planned by their keys
+pub planned_by_keys : (ts : List Opened) (chosen : List Table) (output : ℕ) → AllByRecursion HasNoRange chosen → plan_by_keys (outlines ts) chosen output ≡ plan_of (outlines ts) chosen output
+planned_by_keys ts chosen output none =
+    ap (λ (met : List Table). record { inputs = chosen ++ met; output = output })
+    (keep_same (overlaps (least_of chosen) (greatest_of chosen)) (meets chosen) (on_level output (outlines ts))
+    (weaker HasNoRange (λ (t : Table). overlaps (least_of chosen) (greatest_of chosen) t ≡ meets chosen t) (λ t own. sym (meets_alone chosen t none own)) (on_level output (outlines ts))
+    (all_kept HasNoRange (λ (t : Table). t.level == output) (outlines ts) (outlines_alone ts))))

@@ -1,4 +1,4 @@
--- An output that has a place, and what stands there once it is written.
+-- An output that has a place, and what is there once it is written.
 use Rattle.std.proofs.Common.{◌≡◌, inl, inr, ◌∙◌, ℕ, ◌+◌, ◌-◌, ◌*◌, ◌<◌, ◌^◌, List, [], ◌∷◌, ◌++◌, length, get_or, refl, sym, ap, subst, arith}
 use Rattle.std.specs.Prelude.{Some}
 use Rattle.std.specs.List.{AllByRecursion}
@@ -80,7 +80,7 @@ module _ (spelling : Spelling) (built_cutoff : ℕ → List Leaf → ℕ) (built
   pub row_again : row ≡ made_row spelling built_cutoff built level row.first_page
   row_again = row_is ∙ ap (λ (n : ℕ). made_row spelling built_cutoff built level n) (sym page_is)
 
-  -- as `into_table` wants it
+  -- as `into_table` needs it
   pub row_own : row ≡ made_row spelling built_cutoff built row.level row.first_page
   row_own = row_again ∙ ap (λ (n : ℕ). made_row spelling built_cutoff built n row.first_page) (sym level_is)
 
@@ -124,7 +124,7 @@ module _ (spelling : Spelling) (built_cutoff : ℕ → List Leaf → ℕ) (built
               (subst (λ (n : ℕ). WriteMoves (byte_of_page page) (page_bytes * n) before after) (sym pages_are) moves),
         )
 
-  -- ---- what stands there
+  -- ---- what is there
 
   held_there : (image : Image) → IsTableOf spelling (made_row spelling built_cutoff built level page) (table_of (filter_bytes_of spelling built_cutoff) built.settings level page built.entries) image
       → StandsWith spelling (opened_of built_cutoff built (made_row spelling built_cutoff built level page)) built.entries image

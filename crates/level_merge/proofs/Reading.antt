@@ -1,4 +1,4 @@
--- Reads of a merge, one behind the other, and their faults.
+-- Reads of a merge, one after the other, and their faults.
 use Rattle.std.proofs.Common.{◌≡◌, ◌∙◌, ◌+◌, ◌*◌, ◌-◌, ◌<◌, ◌≤◌, ℕ, List, refl, ap, subst, arith}
 use Rattle.std.specs.Prelude.{Bool, true, false, IsTrue, Result, Err, nat_lt}
 use Rattle.std.proofs.lemmas.Bool.{ltb-true}
@@ -14,7 +14,7 @@ use Rattle.level_merge.specs.declared.fault.JobFault.TheVariants as fault
 use Rattle.merge_rows.specs.Merges.{Merge}
 use Rattle.merge_rows.specs.Reads.{IsFewer, OnlyReads, SomeBlock}
 use Rattle.merge_rows.specs.Steps.{StaysAt}
-use Rattle.table_file.specs.Faults.{HasReadCause, IsNoWant}
+use Rattle.table_file.specs.Faults.{HasReadCause, IsNotMemory}
 use Rattle.table_file.specs.Opened.{Opened}
 use Rattle.table_file.specs.Search.{IsGetFault, page_at}
 use Rattle.table_file.specs.declared.fault.TableFault.{TableFault}
@@ -25,7 +25,7 @@ use Rattle.table_file.specs.declared.fault.TableFault.TheVariants as table
 rose_later : (a b c : ℕ) → a ≤ b → Rose b c → Rose a c
 rose_later a b c le rose = omega (arith, le, rose)
 
--- a fault behind some reads
+-- a fault after some reads
 pub later_fault : (tells : Bool) (tables : List Opened) (now which : List ℕ) (first mid after : World) (why : JobFault) → now ≡ which → OnlyReads first mid
     → IsTakeFault tells tables now mid after why → IsTakeFault tells tables which first after why
 later_fault tells tables now which first mid after fault.Memory same reads is = tt
@@ -38,7 +38,7 @@ later_fault tells tables now which first mid after (fault.Damaged d) same reads 
 later_fault tells tables now which first mid after (fault.Full need gap) same reads is = absurd is
 
 -- a fault of a read of rows is one of the merge
-pub read_fault : (tells : Bool) (tables : List Opened) (which : List ℕ) (before after : World) (why : TableFault) → IsNoWant why
+pub read_fault : (tells : Bool) (tables : List Opened) (which : List ℕ) (before after : World) (why : TableFault) → IsNotMemory why
     → SomeBlock tables which (λ t n. HasReadCause (byte_of_page (page_at t n)) before after why)
     → (IsTrue tells → SomeBlock tables which (λ t n. IsGetFault t n before.seen.held why)) → IsTakeFault tells tables which before after (of_table_fault why)
 read_fault tells tables which before after table.Memory want cause damage = absurd want

@@ -1,10 +1,13 @@
 -- Tables that look alike are chosen alike.
 use Rattle.std.proofs.Common.{◌≡◌, ℕ, zero, suc, ◌+◌, ◌∙◌, Bool, true, false, cond, List, [], ◌∷◌, ◌++◌, length, take, refl, sym, ap, subst}
-use Rattle.std.specs.Prelude.{◌==◌, nat_le, nat_lt, filter, fold, Option, Some, None}
+use Rattle.std.specs.Prelude.{◌==◌, ◌&&◌, nat_le, nat_lt, not, filter, fold, Option, Some, None}
 use Rattle.std.specs.List.{sum_by}
 use Rattle.std.proofs.lemmas.List.Sums.{sum_by-cons}
 use Rattle.map_model.specs.SortedMap.{Bytes}
-use Rattle.state_model.specs.Merges.{Plan, choose, first_over, greater, greatest_key, greatest_of, is_over, least_key, least_of, lesser, level_limit, on_level, overlaps, plan_of}
+use Rattle.key_base.specs.ByteOrder.{is_before}
+use Rattle.range_model.specs.Ranges.{DeletedRange}
+use Rattle.range_model.specs.Reach.{reach}
+use Rattle.state_model.specs.Merges.{Plan, choose, first_over, greater, greatest_key, greatest_of, is_over, least_key, least_of, lesser, level_limit, meets, on_level, plan_of}
 use Rattle.table_model.specs.Tables.{Table}
 
 -- all that a choice looks at
@@ -13,6 +16,7 @@ pub record IsLike (t u : Table) : Type 0 where
   pub pages : t.pages ≡ u.pages
   pub least : least_key t ≡ least_key u
   pub greatest : greatest_key t ≡ greatest_key u
+  pub ranges : t.ranges ≡ u.ranges
 
 -- one after the other
 abbrev pub Each : (Table → Table → Type 0) → List Table → List Table → Type 0
@@ -92,6 +96,15 @@ greatest_alike R (t ∷ ts) [] like each = absurd each
 greatest_alike R (t ∷ ts) (u ∷ us) like each =
     same_greatest R (greatest_key t) ts us like each.1 ∙ ap (λ k. fold (λ key (u : Table). greater key (greatest_key u)) k us) (like t u each.0).greatest
 
+same_reach : (R : Table → Table → Type 0) (key : Bytes) (ts us : List Table) → Likens R → Each R ts us
+    → fold (λ key (u : Table). greater key (reach u.ranges)) key ts ≡ fold (λ key (u : Table). greater key (reach u.ranges)) key us
+same_reach R key [] [] like each = refl
+same_reach R key [] (u ∷ us) like each = absurd each
+same_reach R key (t ∷ ts) [] like each = absurd each
+same_reach R key (t ∷ ts) (u ∷ us) like each =
+    same_reach R (greater key (reach t.ranges)) ts us like each.1
+    ∙ ap (λ (ranges : List DeletedRange). fold (λ key (u : Table). greater key (reach u.ranges)) (greater key (reach ranges)) us) (like t u each.0).ranges
+
 -- ---- levels
 
 on_level_alike : (R : Table → Table → Type 0) (level : ℕ) (ts us : List Table) → Likens R → Each R ts us → Each R (on_level level ts) (on_level level us)
@@ -102,20 +115,22 @@ over_alike : (R : Table → Table → Type 0) (level : ℕ) (ts us : List Table)
 over_alike R level ts us like each =
     ap (λ n. nat_lt (level_limit level) n) (as_many_pages R (on_level level ts) (on_level level us) like (on_level_alike R level ts us like each))
 
-overlap_alike : (lo lo2 hi hi2 : Bytes) (t u : Table) → lo ≡ lo2 → hi ≡ hi2 → IsLike t u → overlaps lo hi t ≡ overlaps lo2 hi2 u
-overlap_alike lo lo2 hi hi2 t u same_lo same_hi like =
-    let least : least_key t ≡ least_key u = like.least in
-    let greatest : greatest_key t ≡ greatest_key u = like.greatest in
-    rw (same_lo, same_hi, least, greatest) refl
+-- what decides whether tables meet: the bounds of the one, and of the others
+abbrev meets_by : Bytes → List DeletedRange → Bytes → Bytes → Bytes → Bytes → Bool
+meets_by greatest ranges least lo hi end =
+    not (is_before greatest lo && not (is_before lo (reach ranges))) && not (is_before hi least && not (is_before least end))
+
+meets_alike : (R : Table → Table → Type 0) (vs ws : List Table) (t u : Table) → Likens R → Each R vs ws → IsLike t u → meets vs t ≡ meets ws u
+meets_alike R vs ws t u like some alike = λ i.
+    meets_by (alike.greatest i) (alike.ranges i) (alike.least i) (least_alike R vs ws like some i) (greatest_alike R vs ws like some i) (same_reach R [] vs ws like some i)
 
 -- ---- plans
 
 plans_alike : (R : Table → Table → Type 0) (ts us vs ws : List Table) (output : ℕ) → Likens R → Each R ts us → Each R vs ws
     → Each R (plan_of ts vs output).inputs (plan_of us ws output).inputs
 plans_alike R ts us vs ws output like all some =
-    each_joined R vs ws (filter (overlaps (least_of vs) (greatest_of vs)) (on_level output ts)) (filter (overlaps (least_of ws) (greatest_of ws)) (on_level output us)) some
-    (each_kept R (overlaps (least_of vs) (greatest_of vs)) (overlaps (least_of ws) (greatest_of ws)) (on_level output ts) (on_level output us)
-    (λ t u r. overlap_alike (least_of vs) (least_of ws) (greatest_of vs) (greatest_of ws) t u (least_alike R vs ws like some) (greatest_alike R vs ws like some) (like t u r))
+    each_joined R vs ws (filter (meets vs) (on_level output ts)) (filter (meets ws) (on_level output us)) some
+    (each_kept R (meets vs) (meets ws) (on_level output ts) (on_level output us) (λ t u r. meets_alike R vs ws t u like some (like t u r))
     (on_level_alike R output ts us like all))
 
 -- the inputs are related, and the level is the same

@@ -1,4 +1,4 @@
--- Rows that are taken, one behind the other, and the outputs that are still made.
+-- Rows that are taken, one after the other, and the outputs that are still made.
 use Rattle.std.proofs.Common.{◌≡◌, ◌∙◌, ◌≤◌, ℕ, List, [], ◌∷◌, ◌++◌, Bool, true, false, cond, refl, sym, ap, ap₂, subst, arith}
 use Rattle.std.specs.Prelude.{IfSome, IsTrue, Option, Some, None, is_some}
 use Rattle.std.specs.List.{AllByRecursion}
@@ -74,7 +74,7 @@ no_rows : (now : Option Entry) (old new : List Entry) → is_some now ≡ false 
 no_rows None old new none hands = hands
 no_rows (Some e) old new none hands = absurd (false≢true (sym none))
 
--- behind rows that were taken: blocks were read, and then a row came or none
+-- after rows that were taken: blocks were read, and then a row came or none
 module _ (tells : Bool) (tables : List Opened) (image : Image) (beside : ℕ) (drops : Bool) (first old mid : Merge) (begun built : List Entry)
     (stay : SourcesStay tells tables image first old) (from : FillsOutput tells tables image beside drops first old begun built)
     (kept : KeepsRows tells tables image old mid) (read : blocks_left tables mid.walks ≤ blocks_left tables old.walks) where

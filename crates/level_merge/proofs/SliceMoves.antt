@@ -52,7 +52,7 @@ module _ (spelling : Spelling) (built_cutoff : ℕ → List Leaf → ℕ) (old m
       let n = page_bytes * pages_of one.0 in
       inr (one.0, reads.0 + 0, adds one.0 one.1, moves_joined at n reads.0 0 before here after (moves_of_read at n reads.0 before here reads.1) (moves_of_write at n 0 here after one.2))
 
--- reads behind them
+-- reads after them
 pub moves_then : (spelling : Spelling) (built_cutoff : ℕ → List Leaf → ℕ) (old new last : JobValue) (free extents : Taken) (before after end : World) → last.outputs ≡ new.outputs → ReadMoves 0 after end
     → SliceMoves spelling built_cutoff old new free extents before after → SliceMoves spelling built_cutoff old last free extents before end
 moves_then spelling built_cutoff old new last free extents before after end same still (inl none) =

@@ -46,7 +46,7 @@ use Rattle.table_model.specs.Laws.{IsApartFromRow}
 use Rattle.table_model.specs.Pieces.{index_of_pieces}
 use Rattle.table_model.specs.Tables.{FilterBytes, Table, filter_bytes_of, table_of, table_pages}
 
--- ---- tables that stand apart from what is written
+-- ---- tables that are apart from what is written
 
 module _ (spelling : Spelling) (at n : ℕ) (f g : Image) (torn : Torn at n f g) where
   one_kept : (opened : Opened) (t : Table) → IsApartFromRow at n opened.row → TableAgrees spelling opened t f → TableAgrees spelling opened t g
@@ -110,7 +110,7 @@ module _ (e : Extent) (opened made : List Opened) (others : List Extent) (free :
       (all_front (AreApart e) (map (λ (t : Opened). extent_at t.row) made) others
       (all_behind (AreApart e) (map (λ (t : Opened). extent_at t.row) opened) (map (λ (t : Opened). extent_at t.row) made ++ others) all_apart))
 
--- an extent more, behind those of the tables that are made
+-- an extent more, after those of the tables that are made
 one_taken : (e : Extent) (xs ys zs all extents : List Extent) → IsPermutation all (xs ++ (ys ++ zs)) → IsPermutation (e ∷ all) extents → IsPermutation extents (xs ++ ((ys ++ e ∷ []) ++ zs))
 one_taken e xs ys zs all extents taken added =
     let here : (xs ++ ys) ++ e ∷ zs ≡ xs ++ ((ys ++ e ∷ []) ++ zs) = append_assoc xs ys (e ∷ zs) ∙ ap (λ (l : List Extent). xs ++ l) (sym (append_assoc ys (e ∷ []) zs)) in
@@ -149,7 +149,7 @@ some_length (e ∷ built) some = omega arith
 
 -- ---- damage
 
--- no block of a table that stands is damaged
+-- no block of a table that is there is damaged
 standing_at : (spelling : Spelling) (opened : List Opened) (tables : List Table) (image : Image) (place : ℕ) (t : Opened) → TablesAgree spelling opened tables image
     → slice_get opened place ≡ Some t → (u : Table) × TableAgrees spelling t u image
 standing_at spelling [] tables image place t held there = absurd cc
@@ -224,7 +224,7 @@ module _ (standing : StandingBlocks) (spelling : Spelling) (built_cutoff : ℕ �
         no_output [] empty = refl
         no_output (e ∷ built) empty = absurd (omega (arith, empty))
 
-    -- and none comes behind the one that is built
+    -- and none comes after the one that is built
     pub nothing_next : [] ≡ outputs_of (mid.beside - 1) (lasting mid.drops (rows_left mid.merge opened before.seen.held))
     nothing_next = sym (ap (outputs_of (mid.beside - 1)) (ap (lasting mid.drops) none ∙ none_lasts mid.drops) ∙ none_of (mid.beside - 1))
 
@@ -376,7 +376,7 @@ module _ (standing : StandingBlocks) (spelling : Spelling) (built_cutoff : ℕ �
       unfolding makes_one
       ends read none = record { goes = makes_one; said = (ap (λ (m : Merge). blocks_left opened m.walks) walks_are ∙ read, none) }
 
--- ---- rows were taken behind an output that was closed
+-- ---- rows were taken after an output that was closed
 
 module _ (spelling : Spelling) (filter_bytes : FilterBytes) (opened : List Opened) (tables : List Table) (old mid new : JobValue) (left : List (List Entry)) (made : List Table)
     (others : List Extent) (free taken : Taken) (before here after : World) (tells : Bool) (is : IsTrue tells)
@@ -412,7 +412,7 @@ module _ (spelling : Spelling) (filter_bytes : FilterBytes) (opened : List Opene
     taken_are = subst (λ (m : List Opened). AreTakenBy opened m others taken) (sym still_made) on.taken_are;
   }
 
-  -- what was found behind it is what is left
+  -- what was found after it is what is left
   pub looked_on : mid.merge.drops ≡ false → (said : Sliced) → LooksOn tells opened here.seen.held mid new said
       → SliceOf spelling filter_bytes opened tables old new left made others free taken before after said
   unfolding goes_then

@@ -4,6 +4,7 @@ use Rattle.std.specs.List.Sorted.{IsPermutation}
 use Rattle.disk_trait.specs.Image.{Image}
 use Rattle.disk_trait.specs.World.{Now, Rose, World}
 use Rattle.disk_trait.specs.declared.fault.Op.TheVariants.{Read}
+use Rattle.entry_model.specs.Entries.{Entry}
 use Rattle.extent_map.specs.Taken.{Taken}
 use Rattle.filter_api.specs.Spellings.{Spelling}
 use Rattle.store_search.specs.TablesAgree.{TablesAgree}
@@ -16,20 +17,23 @@ use Rattle.level_merge.specs.declared.fault.Sliced.{Sliced}
 use Rattle.level_merge.specs.declared.fault.Sliced.TheVariants as sliced
 use Rattle.merge_rows.specs.Reads.{blocks_left}
 use Rattle.merge_rows.specs.Steps.{numbers}
+use Rattle.range_model.specs.Sources.{alone}
 use Rattle.state_model.specs.State.{Job, State}
 use Rattle.state_model.specs.Taken.{taken}
 use Rattle.state_model.specs.Tends.{IsDone, MayWrite, Progresses, next_placed, outstanding, with_job}
 use Rattle.table_file.specs.Opened.{Opened}
 use Rattle.table_model.specs.Tables.{FilterBytes, Table}
 
--- The merge reads the job's inputs, has as many blocks to read, still makes the outputs that the job has not written, and has made
--- those that it has, which stand on the device.
+-- The merge reads the job's inputs, has as many blocks to read, still makes the outputs that the job has not written, entries without
+-- ranges, and has made those that it has, which are on the device.
 pub record Follows (spelling : Spelling) (s : State) (opened : List Opened) (image : Image) (m : JobValue) (job : Job) : Type 0 where
   pub settings : m.settings ≡ s.settings
   pub inputs : map (numbered s.tables) (numbers m.merge.walks) ≡ map (λ (t : Table). Some t) job.inputs
   pub output : m.output ≡ job.output
   pub to_read : blocks_left opened m.merge.walks ≡ job.to_read
-  pub makes : OutputsLeft spelling opened image m (outstanding s.tables job) job.written
+  pub left : List (List Entry)
+  pub left_are : outstanding s.tables job ≡ map alone left
+  pub makes : OutputsLeft spelling opened image m left job.written
 
 -- the extents that are taken with a job are these, in any order
 pub record AreTaken (s : State) (job : Job) (extents : Taken) : Type 0 where
@@ -41,7 +45,7 @@ abbrev pub IsSliced : State → Job → Job → Sliced → Type 0
 IsSliced s job later sliced.Working = (later ≢ job) × (IsDone s.tables later → ⊥)
 IsSliced s job later sliced.Ready = IsDone s.tables later
 
--- Want of memory; a read that failed, where a block is to read; a write or a sync that failed, where an output may be written; or an
+-- Lack of memory; a read that failed, where a block is to read; a write or a sync that failed, where an output may be written; or an
 -- output that has no room, once the job went on to it.
 abbrev pub IsJobRefusal : FilterBytes → State → Job → World → World → JobFault → Type 0
 IsJobRefusal filter_bytes s job old new fault.Memory = Unit {0}
@@ -52,7 +56,7 @@ IsJobRefusal filter_bytes s job old new (fault.Damaged damage) = ⊥
 IsJobRefusal filter_bytes s job old new (fault.Full need gap) =
     (later : Job) × Progresses filter_bytes s job later × (next_placed filter_bytes s later 1 ≡ Err (record { need = need; gap = gap }))
 
--- The job goes on and is followed; the tables that are read and those that are made stand on the device as it is then, and those
+-- The job goes on and is followed; the tables that are read and those that are made are on the device as it is then, and those
 -- that are made on each image that a crash may leave where they did before.
 pub record JobProgress (spelling : Spelling) (filter_bytes : FilterBytes) (s : State) (job : Job) (opened : List Opened) (old new : JobValue) (extents : Taken)
     (before after : World) (sliced : Sliced) : Type 0 where

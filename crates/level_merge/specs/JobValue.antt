@@ -1,4 +1,4 @@
--- A merge that runs, as it stands in memory, and what it still makes.
+-- A merge that runs, as it is in memory, and what it still makes.
 use Rattle.std.specs.Prelude.{◌≡◌, ◌≤◌, ◌+◌, ◌-◌, ℕ, zero, suc, nat_le, nat_lt, Bool, true, false, not, if◌then◌else◌, List, [], ◌∷◌, ◌++◌, length, map, Option, Some, None}
 use Rattle.std.specs.List.{AllByRecursion, list_any}
 use Rattle.block_model.specs.Order.{Follow, is_any}
@@ -45,7 +45,7 @@ merge_of which memory output drops settings tables = record {
 abbrev pub begun : PlanByNumbers → Settings → List Opened → JobValue
 begun p settings tables = merge_of p.inputs None p.output (not (list_any (λ (t : Opened). nat_lt p.output t.row.level) tables)) settings tables
 
--- the numbers of so many tables, the newest first
+-- the numbers of a given number of tables, the newest first
 abbrev pub all_numbers : ℕ → List ℕ
 all_numbers zero = []
 all_numbers (suc many) = many ∷ all_numbers many

@@ -10,7 +10,7 @@ use Rattle.table_file.specs.Opened.{Opened}
 use Rattle.table_file.specs.Search.{StandsThere}
 use Rattle.table_model.specs.Images.{table_with}
 
--- an open table that stands on a device agrees with the table of its row and its blocks
+-- an open table that is on a device agrees with the table of its row and its blocks
 abbrev pub StandingAgrees : Type 0
 StandingAgrees =
     (spelling : Spelling) (t : Opened) (blocks : List (List Entry)) (image : Image) → StandsThere spelling t blocks image

@@ -22,7 +22,7 @@ use Rattle.merge_rows.specs.Steps.{IsSoundMerge, numbers, stands}
 use Rattle.table_file.specs.Opened.{Opened}
 use Rattle.table_model.specs.Tables.{FilterBytes, Table, table_of, table_pages}
 
--- these outputs are still to make, and these tables are made and stand on the device
+-- these outputs are still to make, and these tables are made and are on the device
 pub record OutputsLeft (spelling : Spelling) (opened : List Opened) (image : Image) (m : JobValue) (left : List (List Entry)) (made : List Table) : Type 0 where
   pub sound : IsSoundMerge m.merge opened image
   pub left_are : outputs_left m opened image ≡ left
@@ -65,7 +65,7 @@ AnswersProgress opened old new later made now sliced.Working =
 AnswersProgress opened old new later made now sliced.Ready = (blocks_left opened new.merge.walks ≡ 0) × (later ≡ [])
 
 -- A merge went on: no more blocks are left than before, one output was made or none, the tables that are read and those that are
--- made stand on the device as it is then, and those that are made on each image that a crash may leave where they did before.
+-- made are on the device as it is then, and those that are made on each image that a crash may leave where they did before.
 pub record GoesOn (spelling : Spelling) (filter_bytes : FilterBytes) (opened : List Opened) (tables : List Table) (old new : JobValue) (left : List (List Entry)) (made : List Table)
     (others : List Extent) (free taken : Taken) (before after : World) : Type 0 where
   pub later : List (List Entry)
@@ -87,7 +87,7 @@ pub record SliceOf (spelling : Spelling) (filter_bytes : FilterBytes) (opened : 
   pub goes : GoesOn spelling filter_bytes opened tables old new left made others free taken before after
   pub said : AnswersProgress opened old new goes.later made goes.now sliced
 
--- Want of memory; a read that failed, where a block is to read; a write or a sync that failed, where an output has its place; or the
+-- Lack of memory; a read that failed, where a block is to read; a write or a sync that failed, where an output has its place; or the
 -- first of the outputs has none.
 abbrev pub IsMakeRefusal : FilterBytes → List Opened → JobValue → List (List Entry) → Taken → World → World → JobFault → Type 0
 IsMakeRefusal filter_bytes opened m left free before after fault.Memory = Unit {0}

@@ -23,6 +23,7 @@ pub record Agrees (opened : Opened) (t : Table) : Type 0 where
   pub blocks : length opened.index.rows ≡ t.blocks
   pub least : opened.index.least ≡ least_key t
   pub greatest : (row_at opened.index.rows (length opened.index.rows - 1)).last ≡ greatest_key t
+  pub no_range : t.ranges ≡ []
 
 -- one after the other
 abbrev pub Agree : List Opened → List Table → Type 0

@@ -16,7 +16,7 @@ use Rattle.merge_rows.specs.Steps.{IsSoundMerge, numbers, stands}
 use Rattle.table_file.specs.Opened.{Opened}
 use Rattle.table_model.specs.Tables.{filter_bytes_of}
 
--- A merge went on by at most so many blocks, or was refused with its cause.
+-- A merge went on by at most a given number of blocks, or was refused with its cause.
 pub record SliceContract (spelling : Spelling) (built_cutoff : ℕ → List Leaf → ℕ) (tells : Bool) (blocks : ℕ) (opened : List Opened) (old new : JobValue) (free taken : Taken)
     (result : Result Sliced JobFault) (before after : World) : Type 0 where
   -- what it still makes of its tables goes on, on a device that tells the truth

@@ -44,7 +44,7 @@ pub record KeepsRows (tells : Bool) (tables : List Opened) (image : Image) (old 
   pub floor_is : new.floor ≡ old.floor
   pub left : IsTrue tells → merged_left new tables image ≡ merged_left old tables image
 
--- how many blocks may still be read, where the next row wants none
+-- how many blocks may still be read, where the next row needs none
 abbrev pub left_of : Option ℕ → ℕ
 left_of None = 0
 left_of (Some left) = left
@@ -66,7 +66,7 @@ pub record PassesBlocks (tells : Bool) (tables : List Opened) (image : Image) (b
   pub sound : IsTrue tells → PassSound tables image old new
   pub none : blocks ≡ 0 → IsTrue tells → next_numbers new ≡ next_numbers old
 
--- Rows went from a merge into an output, and the same outputs are still made, where so many may come beside it.
+-- Rows went from a merge into an output, and the same outputs are still made, where that many may come beside it.
 pub record FillsOutput (tells : Bool) (tables : List Opened) (image : Image) (beside : ℕ) (drops : Bool) (old new : Merge) (before after : List Entry) : Type 0 where
   pub left : IsTrue tells → IsSoundMerge old tables image
       → outputs_with beside after (lasting drops (rows_left new tables image)) ≡ outputs_with beside before (lasting drops (rows_left old tables image))
@@ -134,7 +134,7 @@ pub record AddsOutput (spelling : Spelling) (built_cutoff : ℕ → List Leaf �
   pub extents : IsPermutation (extent_at row ∷ free.extents) taken.extents
   pub pages : taken.pages ≡ free.pages
 
--- There is no output more, and blocks alone were read; or there is one, and behind the reads its pages alone were written.
+-- There is no output more, and blocks alone were read; or there is one, and after the reads its pages alone were written.
 abbrev pub SliceMoves : Spelling → (ℕ → List Leaf → ℕ) → JobValue → JobValue → Taken → Taken → World → World → Type 0
 SliceMoves spelling built_cutoff old new free taken before after =
     ((new.outputs ≡ old.outputs) × (taken ≡ free) × OnlyReads before after)
@@ -150,7 +150,7 @@ abbrev pub SaysWhatIsLeft : List Opened → JobValue → Sliced → Type 0
 SaysWhatIsLeft opened m sliced.Working = (1 ≤ blocks_left opened m.merge.walks) ⊎ (0 < length m.built)
 SaysWhatIsLeft opened m sliced.Ready = m.built ≡ []
 
--- What is left behind an output that was written: so, and where nothing is left to write, no row is.
+-- What is left after an output that was written: so, and where nothing is left to write, no row is.
 abbrev pub LooksOn : Bool → List Opened → Image → JobValue → JobValue → Sliced → Type 0
 LooksOn tells opened image old new sliced.Working = SaysWhatIsLeft opened new sliced.Working
 LooksOn tells opened image old new sliced.Ready = (new.built ≡ []) × (IsTrue tells → IsSoundMerge old.merge opened image → rows_left new.merge opened image ≡ [])
@@ -175,7 +175,7 @@ FailsBeforeWrite old new (fault.Device cause) = Unit {0}
 FailsBeforeWrite old new (fault.Damaged d) = new.seen.held ≡ old.seen.held
 FailsBeforeWrite old new (fault.Full need gap) = Unit {0}
 
--- Want of room: it is that of the pages of an output, which has an entry or more under these settings, and the largest gap beside
+-- Lack of room: it is that of the pages of an output, which has an entry or more under these settings, and the largest gap beside
 -- these extents has fewer.
 abbrev pub HasNoRoom : FilterBytes → Settings → ℕ → List Extent → JobFault → Type 0
 HasNoRoom filter_bytes settings pages extents fault.Memory = Unit {0}

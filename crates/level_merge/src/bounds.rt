@@ -4,7 +4,7 @@ ghost use Rattle.std.specs.List.{AllByRecursion, list_any};
 ghost use Rattle.key_base.specs.ByteOrder.{is_before};
 ghost use Rattle.key_base.specs.Limits.{max_tables};
 ghost use Rattle.level_merge.specs.JobValue.{all_numbers};
-ghost use Rattle.level_merge.specs.Outlines.{outline, outline_of, outlines, table_number};
+ghost use Rattle.level_merge.specs.Outlines.{outline, outline_of, outlines, overlaps, table_number};
 ghost use Rattle.state_model.specs.Merges as model;
 
 use filter_api::RangeFilter;
@@ -30,7 +30,7 @@ fn greater<'a>(x: &'a [u8], y: &'a [u8]) -> &'a [u8]
     if is_before(x, y) { y } else { x }
 }
 
-/// The number of the table at a place: how many tables stand behind it.
+/// The number of the table at a place: how many tables are after it.
 pub(crate) fn number_at(place: usize, many: usize) -> u32
     requires there { place < many }
     requires few { many ≤ max_tables }
@@ -79,7 +79,7 @@ pub(crate) fn greatest_of<'a, F: RangeFilter>(tables: &'a [Table<F>], which: &[u
 
 /// Whether the table's keys reach into those from `lo` to `hi`.
 pub(crate) fn overlaps<F: RangeFilter>(lo: &[u8], hi: &[u8], table: &Table<F>) -> bool
-    ensures { result ≡ model.overlaps lo.now hi.now (outline 0 table.now) }
+    ensures { result ≡ overlaps lo.now hi.now (outline 0 table.now) }
 {
     !is_before(table.greatest(), lo) && !is_before(hi, table.least())
 }
@@ -96,7 +96,7 @@ pub(crate) fn lies_deeper<F: RangeFilter>(level: u8, tables: &[Table<F>]) -> boo
     false
 }
 
-/// The numbers of so many tables, the newest first.
+/// The numbers of a given number of tables, the newest first.
 pub(crate) fn numbers_of_all(alloc: Global, many: u32) -> Result<Vec<u32>, AllocError>
     ensures { IfOk result (λ which. which.items ≡ all_numbers many) }
 {

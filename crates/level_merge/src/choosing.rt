@@ -4,7 +4,7 @@ ghost use Rattle.std.specs.List.{AllByRecursion, sum_by};
 ghost use Rattle.std.specs.Option.{option_map};
 ghost use Rattle.block_model.specs.Places.{pages_of};
 ghost use Rattle.key_base.specs.Limits.{max_tables};
-ghost use Rattle.level_merge.specs.Outlines.{by_numbers, table_number, outline_of, outlines, plan_from};
+ghost use Rattle.level_merge.specs.Outlines.{by_numbers, table_number, outline_of, outlines, overlaps, plan_by_keys, plan_from};
 ghost use Rattle.level_merge.specs.Plans.{Agree, IsPlanOf, MayStart};
 ghost use Rattle.state_model.specs.Merges as model;
 ghost use Rattle.table_model.specs.Tables as state;
@@ -16,7 +16,7 @@ use filter_api::RangeFilter;
 use std::alloc::{AllocError, Global};
 use table_file::{Table, Tables};
 
-// So many tables of level 0 are merged at once.
+// A given number of tables of level 0 are merged at once.
 const NEWEST_TABLES: usize = 4;
 
 // How many tables a level has.
@@ -112,7 +112,7 @@ fn push_met<F: RangeFilter>(
     which: &mut Vec<u32>,
 ) -> Result<(), AllocError>
     requires few { length tables.now ≤ max_tables }
-    ensures { OnOk result (which.new.items ≡ which.old.items ++ map table_number (filter (model.overlaps lo.now hi.now) (model.on_level level (outlines tables.now)))) }
+    ensures { OnOk result (which.new.items ≡ which.old.items ++ map table_number (filter (overlaps lo.now hi.now) (model.on_level level (outlines tables.now)))) }
 {
     for place in 0..tables.len() {
         let table = &tables[place];
@@ -132,7 +132,7 @@ fn plan_of<F: RangeFilter>(
     requires few { length tables.now ≤ max_tables }
     requires there { AllByRecursion (λ number. number < length tables.now) which.items }
     ensures { (chosen : List state.Table) → map (outline_of tables.now) which.items ≡ chosen → which.items ≡ map table_number chosen
-        → IfOk result (λ plan. plan ≡ by_numbers (model.plan_of (outlines tables.now) chosen output)) }
+        → IfOk result (λ plan. plan ≡ by_numbers (plan_by_keys (outlines tables.now) chosen output)) }
 {
     let mut inputs = Vec::new(*which.allocator());
     inputs.extend_from_slice(&which)?;

@@ -33,7 +33,7 @@ use merge_rows::MergeRows;
 use std::alloc::{AllocError, Global};
 use std::marker::Model;
 use std::mem;
-use table_file::{Table, TableBuilder, Tables, standing_tables_are_read};
+use table_file::{Table, TableBuilder, Tables};
 
 /// A merge that runs: the rows that are left of its tables, the output that is built, and the outputs that are written.
 #[derive(Drop)]
@@ -146,9 +146,9 @@ impl<'m, F: RangeFilter> Job<'m, F> {
         })
     }
 
-    /// Goes on with the merge: reads at most so many blocks, one or more, and on a device whose tables do not stand at most
+    /// Goes on with the merge: reads at most a given number of blocks, one or more, and on a device whose tables are not at most
     /// twice as many; and writes an output where one is full, or where no row is left. `Ready` exactly where then nothing is
-    /// left: rows that want no block are taken on. Each block that was passed is sound, and where nothing is left none was left
+    /// left: rows that need no block are taken on. Each block that was passed is sound, and where nothing is left none was left
     /// out.
     pub fn slice<D: Disk>(
         &mut self,
@@ -206,8 +206,8 @@ impl<'m, F: RangeFilter> Job<'m, F> {
         requires there { AreWalksIn tables.now.tables (stands self.old.merge.walks) }
         ensures { SliceContract F.spelling F.built_cutoff D.tells blocks tables.now.tables self.old self.new extents.old extents.new result (D.world disk.old) (D.world disk.new) }
     {
-        // the law of the tables: what stands is read as it is, and no read of it is damage
-        standing_tables_are_read();
+        // the law of the tables: what is is read as it is, and no read of it is damage
+        table_file::laws::standing_tables_are_read();
         match self.take_rows(disk, tables, blocks) {
             Ok(Stop::Blocks) => Ok(Sliced::Working),
             Ok(Stop::Full) => match self.close(disk, extents, MERGE_DATA_PAGES) {
@@ -230,7 +230,7 @@ impl<'m, F: RangeFilter> Job<'m, F> {
         }
     }
 
-    // Behind an output that was written: adds rows to the next one while they want no block, and answers whether more is left. No
+    // After an output that was written: adds rows to the next one while they need no block, and answers whether more is left. No
     // read.
     fn look_on<D: Disk>(&mut self, disk: &mut D, tables: &Tables<F>) -> Result<Sliced, JobFault>
         requires there { AreWalksIn tables.now.tables (stands self.old.merge.walks) }
@@ -257,7 +257,7 @@ impl<'m, F: RangeFilter> Job<'m, F> {
         }
     }
 
-    // Adds rows to the output that is built, until it is full, no row is left, or the next one wants a block and as many were
+    // Adds rows to the output that is built, until it is full, no row is left, or the next one needs a block and as many were
     // read as may be.
     fn take_rows<D: Disk>(
         &mut self,
@@ -293,7 +293,7 @@ impl<'m, F: RangeFilter> Job<'m, F> {
         )
     }
 
-    // Writes the output that is built in the first gap that holds it, and begins the next one, with room for so many pages.
+    // Writes the output that is built in the first gap that holds it, and begins the next one, with room for a given number of pages.
     fn close<D: Disk>(
         &mut self,
         disk: &mut D,

@@ -2,14 +2,11 @@
 ghost use Rattle.level_merge.specs.FollowLaws.{BegunFollows, CompactionMakes, FlushedIsFollowed, MergeBegins, OtherImageIsFollowed};
 ghost use Rattle.level_merge.specs.Laws.{OutputsFollow, StandingAgrees};
 
-use merge_rows::standing_tables_are_merged;
-use table_file::standing_tables_are_read;
-
-/// Law: an open table that stands on a device agrees with the table of its row and its blocks.
+/// Law: an open table that is on a device agrees with the table of its row and its blocks.
 pub fn standing_tables_agree()
     ensures { StandingAgrees }
 {
-    standing_tables_are_read();
+    table_file::laws::standing_tables_are_read();
 }
 
 /// Law: where nothing is built, a merge still makes the outputs of its rows.
@@ -17,15 +14,15 @@ pub fn outputs_follow()
     ensures { OutputsFollow }
 {}
 
-/// Law: a merge of tables that stand on a device begins with the outputs of their newest entries: that of a plan follows the job
+/// Law: a merge of tables that are on a device begins with the outputs of their newest entries: that of a plan follows the job
 /// of the plan, and that of the memory and of all tables makes the tables of a compaction.
 pub fn merges_begin()
     ensures begun { MergeBegins }
     ensures follows { BegunFollows }
     ensures compaction { CompactionMakes }
 {
-    standing_tables_are_merged();
-    standing_tables_are_read();
+    merge_rows::laws::standing_tables_are_merged();
+    table_file::laws::standing_tables_are_read();
 }
 
 /// Law: a merge that follows a job of a state goes on to follow it where a flush puts a table before all others, and on another
@@ -34,5 +31,5 @@ pub fn jobs_are_followed()
     ensures flush { FlushedIsFollowed }
     ensures image { OtherImageIsFollowed }
 {
-    standing_tables_are_read();
+    table_file::laws::standing_tables_are_read();
 }

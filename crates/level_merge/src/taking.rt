@@ -20,7 +20,7 @@ use table_file::{TableBuilder, Tables};
 
 /// Why rows were taken no further.
 pub(crate) enum Stop {
-    /// The next row wants a block, and as many were read as may be.
+    /// The next row needs a block, and as many were read as may be.
     Blocks,
     /// The output that is built is full.
     Full,
@@ -28,8 +28,8 @@ pub(crate) enum Stop {
     End,
 }
 
-/// Adds rows to the output that is built, until it is full, no row is left, or the next one wants a block and as many were read
-/// as may be. Tombstones are left out where they are dropped; so many outputs may come beside the one that is built.
+/// Adds rows to the output that is built, until it is full, no row is left, or the next one needs a block and as many were read
+/// as may be. Tombstones are left out where they are dropped; a given number of outputs may come beside the one that is built.
 pub(crate) fn take_rows<'m, F: RangeFilter, D: Disk>(
     rows: &mut MergeRows<'m>,
     built: &mut TableBuilder,
@@ -78,7 +78,7 @@ fn is_full(beside: usize, built: &TableBuilder) -> bool
     beside > 0 && built.data_pages() >= u64::from(MERGE_DATA_PAGES)
 }
 
-// Reads the blocks that the next row wants, at most so many, and answers how many may still be read; or `None` where it wants one
+// Reads the blocks that the next row needs, at most that many, and answers how many may still be read; or `None` where it needs one
 // more.
 fn read_ahead<'m, F: RangeFilter, D: Disk>(
     rows: &mut MergeRows<'m>,
@@ -101,7 +101,7 @@ fn read_ahead<'m, F: RangeFilter, D: Disk>(
     ensures unread { OnErr result (0 < blocks) }
     ensures met { IsTrue D.tells → IsSoundMerge rows.old tables.now.tables (D.world disk.old).seen.held → OnErr result (1 ≤ blocks_left tables.now.tables rows.old.walks) }
     ensures moves { OnlyReads (D.world disk.old) (D.world disk.new) }
-    ensures paced { IfOk result (λ ahead. ReadMoves (2 * (blocks - left_of ahead)) (D.world disk.old) (D.world disk.new)) }
+    ensures caught_up_past { IfOk result (λ ahead. ReadMoves (2 * (blocks - left_of ahead)) (D.world disk.old) (D.world disk.new)) }
     ensures twice { ReadMoves (2 * blocks) (D.world disk.old) (D.world disk.new) }
     ensures bounded { IsTrue D.tells → IsSoundMerge rows.old tables.now.tables (D.world disk.old).seen.held → ReadMoves blocks (D.world disk.old) (D.world disk.new) }
     ensures counted { IsTrue D.tells → IsSoundMerge rows.old tables.now.tables (D.world disk.old).seen.held → IfOk result (λ ahead. ReadMoves (blocks - left_of ahead) (D.world disk.old) (D.world disk.new)) }

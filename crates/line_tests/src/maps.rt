@@ -75,6 +75,23 @@ fn a_put_replaces_and_a_del_takes_away(rt: HostRuntime) -> Result<(), Fail> {
 }
 
 #[test]
+fn a_clear_leaves_its_upper_bound(rt: HostRuntime) -> Result<(), Fail> {
+    let rows: [(&[u8], &[u8], usize); 5] = [
+        (b"a", b"b", 1),
+        (b"", b"z", 0),
+        (b"aa", b"c", 1),
+        (b"b", b"a", 2),
+        (b"a", b"a", 2),
+    ];
+    for (lo, hi, left) in rows {
+        let mut map = two(rt.alloc())?;
+        map.clear(lo, hi);
+        assert_eq!(rt; map.len(), left);
+    }
+    Ok(())
+}
+
+#[test]
 fn keys_stand_in_the_order_of_pushing(rt: HostRuntime) -> Result<(), Fail> {
     let mut keys = KeyList::new(rt.alloc());
     assert!(rt; keys.is_empty());

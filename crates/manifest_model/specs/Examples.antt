@@ -73,7 +73,11 @@ unfoldable pub broken_in_format_1 : ℕ → ℕ → Bytes
 broken_in_format_1 place byte = summed (set (prefix_bytes 1 one_table) place byte)
 
 abbrev pub keys_at : ℕ → ℕ → ℕ → KeyRange
-keys_at level least greatest = record { level = level; least = least ∷ []; greatest = greatest ∷ [] }
+keys_at level least greatest = record { level = level; least = least ∷ []; greatest = greatest ∷ []; reach = [] }
+
+-- with ranges up to this key
+abbrev pub reaching : KeyRange → ℕ → KeyRange
+reaching range end = record range { reach = end ∷ [] }
 
 -- damage of the manifest at a byte of the device
 abbrev pub shape : ℕ → ℕ → Option Damage

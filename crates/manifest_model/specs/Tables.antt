@@ -1,5 +1,5 @@
 -- What the rules say of two slots, and of the keys of the tables of a version.
-use Rattle.std.specs.Prelude.{ℕ, ◌+◌, nat_lt, ◌==◌, Bool, not, ◌||◌, List, [], ◌∷◌, Option, None}
+use Rattle.std.specs.Prelude.{ℕ, ◌+◌, nat_lt, ◌==◌, Bool, not, ◌&&◌, ◌||◌, List, [], ◌∷◌, Option, None}
 use Rattle.map_model.specs.SortedMap.{Bytes}
 use Rattle.byte_fields.specs.Faults.{Fault, refuse}
 use Rattle.key_base.specs.ByteOrder.{is_before}
@@ -13,15 +13,17 @@ epochs_fault in_a in_b = refuse (in_a.epoch == in_b.epoch) 8 11 None
 abbrev pub is_newer : Version → Version → Bool
 is_newer v other = nat_lt other.epoch v.epoch
 
--- the level of a table, and its least and its greatest key
+-- the level of a table, its least and its greatest key, and the end of its last deleted range, no bytes where it has none
 pub record KeyRange : Type 0 where
   pub level : ℕ
   pub least : Bytes
   pub greatest : Bytes
+  pub reach : Bytes
 
--- in a deeper level a table's keys are above those of the table before it
+-- in a deeper level a table's keys are above those of the table before it, and not below the end of its ranges
 abbrev pub follows : KeyRange → KeyRange → Bool
-follows before range = not (before.level == range.level) || range.level == 0 || is_before before.greatest range.least
+follows before range =
+    not (before.level == range.level) || range.level == 0 || (is_before before.greatest range.least && not (is_before range.least before.reach))
 
 -- 12: the tables of a deeper level do not rise without overlap; the ranges are in the order of the rows, and the place is
 -- the second row's

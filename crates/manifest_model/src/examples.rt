@@ -2,7 +2,7 @@
 ghost use Rattle.std.specs.Prelude.{◌≡◌, [], ◌∷◌, ◌++◌, length, take, drop, set, replicate, true, Some, None};
 ghost use Rattle.byte_fields.specs.Faults.{fault};
 ghost use Rattle.manifest_model.specs.Reading.{body_damage, version_in};
-ghost use Rattle.manifest_model.specs.Examples.{broken_body, broken_in_format_1, twice_broken, twice_broken_rows, formatted, formatted_mixed, keys_at, mixed_table, one_as_new, one_table, shape, sums, table, table_of_none, version_with};
+ghost use Rattle.manifest_model.specs.Examples.{broken_body, broken_in_format_1, twice_broken, twice_broken_rows, formatted, formatted_mixed, keys_at, mixed_table, one_as_new, one_table, reaching, shape, sums, table, table_of_none, version_with};
 ghost use Rattle.manifest_model.specs.Tables.{epochs_fault, is_newer, ranges_fault};
 ghost use Rattle.manifest_model.specs.Version.{body_bytes, row_bytes, slot_a, slot_b};
 
@@ -126,4 +126,6 @@ pub fn broken_versions()
     ensures level_0_overlaps { ranges_fault (keys_at 0 1 9 ∷ keys_at 0 1 9 ∷ keys_at 1 1 5 ∷ keys_at 1 6 9 ∷ keys_at 2 1 9 ∷ []) ≡ None }
     ensures level_1_does_not { ranges_fault (keys_at 0 1 9 ∷ keys_at 1 1 5 ∷ keys_at 1 5 9 ∷ []) ≡ Some (fault 192 12) }
     ensures nor_does_it_fall { ranges_fault (keys_at 1 6 9 ∷ keys_at 1 1 5 ∷ []) ≡ Some (fault 128 12) }
+    ensures ranges_may_end_where_the_next_begins { ranges_fault (reaching (keys_at 1 1 5) 6 ∷ keys_at 1 6 9 ∷ []) ≡ None }
+    ensures but_not_beyond { ranges_fault (reaching (keys_at 1 1 5) 7 ∷ keys_at 1 6 9 ∷ []) ≡ Some (fault 128 12) }
 {}

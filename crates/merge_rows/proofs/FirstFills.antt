@@ -1,4 +1,4 @@
--- Walks that are asked one after the other whether they want a block.
+-- Walks that are asked one after the other whether they need a block.
 use Rattle.std.proofs.Common.{◌≡◌, ◌+◌, ◌≤◌, ◌<◌, ℕ, zero, suc, List, [], ◌∷◌, length, map, get_or, slice_set, refl, sym, ap, ap₂, ◌∙◌, subst, Bool, true, false, not, arith}
 use Rattle.std.specs.List.{AllByRecursion, sum_by}
 use Rattle.std.proofs.lemmas.Bool.{false≢true}
@@ -17,13 +17,13 @@ use Rattle.merge_rows.proofs.SoundPasses.{pass_same, pass_set, pass_still, pass_
 abbrev pub IsSoundHere : KeyFloor → List Opened → Image → TableWalk → Type 0
 IsSoundHere floor tables image w = IsSoundWalk floor w.walk (blocks_in (numbered tables w.number) image)
 
--- a walk that wanted none
+-- a walk that needed none
 pub record Passed (tells : Type 0) (floor : KeyFloor) (tables : List Opened) (image : Image) (old new : TableWalk) : Type 0 where
   pub number : new.number ≡ old.number
   pub room : new.walk.room ≡ old.walk.room
   pub same : tells → left_above floor tables image new ≡ left_above floor tables image old
-  pub ready : tells → IsCaughtUp floor new.walk.now (walk_left tables image new)
-  pub clear : IsHeadClear floor new.walk.now
+  pub caught_up : tells → IsCaughtUp floor new.walk.now (walk_left tables image new)
+  pub heads_pass : IsHeadClear floor new.walk.now
   pub sound : tells → IsSoundHere floor tables image old → IsSoundHere floor tables image new
   pub block : tells → new.walk.block ≡ old.walk.block
   pub left : blocks_left_in tables new ≡ blocks_left_in tables old
@@ -31,7 +31,7 @@ pub record Passed (tells : Type 0) (floor : KeyFloor) (tables : List Opened) (im
   pub whole : HasReadAll tables new
   pub fewer : tells → IsSoundHere floor tables image old → (wanted_block_of floor tables new ≡ 0) × (wanted_block_of floor tables old ≡ 0)
 
--- the first so many wanted none, and the others stand where they stood
+-- the first n needed none, and the others are where they stood
 abbrev pub Went : (tells : Type 0) → KeyFloor → List Opened → Image → ℕ → List TableWalk → List TableWalk → Type 0
 Went tells floor tables image zero old new = new ≡ old
 Went tells floor tables image (suc i) [] new = ⊥
@@ -81,7 +81,7 @@ set_again [] i d lt = absurd (omega (arith, lt))
 set_again (w ∷ more) zero d lt = refl
 set_again (w ∷ more) (suc i) d lt = ap (λ l. w ∷ l) (set_again more i d (omega (arith, lt)))
 
--- ---- a walk that stands above the floor
+-- ---- a walk that is above the floor
 
 above_clear : (floor : KeyFloor) (now : Option Entry) → is_used_up floor now ≡ false → IsHeadClear floor now
 above_clear floor None above = tt
@@ -95,7 +95,7 @@ above_caught : (floor : KeyFloor) (now : Option Entry) (left : List Entry) → i
 above_caught floor None left above = absurd (false≢true (sym above))
 above_caught floor (Some e) left above = above_clear floor (Some e) above
 
--- it wants none, and stays where it stands
+-- it needs none, and stays where it is
 pub passed_above : (tells : Type 0) (floor : KeyFloor) (tables : List Opened) (image : Image) (w : TableWalk) → is_used_up floor w.walk.now ≡ false → Passed tells floor tables image w w
 passed_above tells floor tables image w above =
     let none : wanted_block_of floor tables w ≡ 0 = ap (λ (b : Bool). ones (b && is_due w.walk (row_count (numbered tables w.number)))) above in
@@ -103,8 +103,8 @@ passed_above tells floor tables image w above =
       number = refl;
       room = refl;
       same = λ t. refl;
-      ready = λ t. above_caught floor w.walk.now (walk_left tables image w) above;
-      clear = above_clear floor w.walk.now above;
+      caught_up = λ t. above_caught floor w.walk.now (walk_left tables image w) above;
+      heads_pass = above_clear floor w.walk.now above;
       sound = λ t s. s;
       block = λ t. refl;
       left = refl;
@@ -139,7 +139,7 @@ module _ (tells : Type 0) (floor : KeyFloor) (tables : List Opened) (image : Ima
   went_on (suc i) (w ∷ old) [] x d lt went passed = absurd went
   went_on (suc i) (w ∷ old) (y ∷ new) x d lt went passed = (went.0, went_on i old new x d (omega (arith, lt)) went.1 passed)
 
-  -- one more that stays where it stands
+  -- one more that stays where it is
   pub went_by : (i : ℕ) (old new : List TableWalk) (d : TableWalk) → i < length new → Gone i old new → is_used_up floor (get_or new i d).walk.now ≡ false → Gone (suc i) old new
   went_by i old new d lt went above =
       subst (Gone (suc i) old) (set_again new i d lt) (went_on i old new (get_or new i d) d lt went (passed_above tells floor tables image (get_or new i d) above))
@@ -183,7 +183,7 @@ module _ (tells : Type 0) (floor : KeyFloor) (tables : List Opened) (image : Ima
   all_ready (suc i) [] (x ∷ new) le t went = absurd went
   all_ready zero (w ∷ old) new le t went = absurd (omega (arith, le))
   all_ready (suc i) (w ∷ old) [] le t went = absurd went
-  all_ready (suc i) (w ∷ old) (x ∷ new) le t went = (went.0.ready t, all_ready i old new (omega (arith, le)) t went.1)
+  all_ready (suc i) (w ∷ old) (x ∷ new) le t went = (went.0.caught_up t, all_ready i old new (omega (arith, le)) t went.1)
 
   pub all_clear : (i : ℕ) (old new : List TableWalk) → length old ≤ i → Gone i old new → AreHeadsClear floor new
   all_clear i [] [] le went = tt
@@ -191,7 +191,7 @@ module _ (tells : Type 0) (floor : KeyFloor) (tables : List Opened) (image : Ima
   all_clear (suc i) [] (x ∷ new) le went = absurd went
   all_clear zero (w ∷ old) new le went = absurd (omega (arith, le))
   all_clear (suc i) (w ∷ old) [] le went = absurd went
-  all_clear (suc i) (w ∷ old) (x ∷ new) le went = (went.0.clear, all_clear i old new (omega (arith, le)) went.1)
+  all_clear (suc i) (w ∷ old) (x ∷ new) le went = (went.0.heads_pass, all_clear i old new (omega (arith, le)) went.1)
 
   pub none_wanted : (i : ℕ) (old new : List TableWalk) → length old ≤ i → tells → Gone i old new → AreSoundWalks floor tables image old → sum_by (wanted_block_of floor tables) old ≡ 0
   none_wanted i [] new le t went sound = refl

@@ -26,7 +26,7 @@ none_from : (i w : ℕ) → big_from i w [] ≡ 0
 none_from i zero = refl
 none_from i (suc w) = let later = none_from (suc i) w in omega (arith, later)
 
--- behind a byte, what is below the base adds less than one to the byte
+-- after a byte, what is below the base adds less than one to the byte
 room : (x y p r : ℕ) → x < y → r < p → x * p + r < y * p
 room x y p r lower fits =
     let steps : (x + 1) * p ≤ y * p = mul-le-mul_right p (omega (arith, lower)) in
@@ -126,7 +126,7 @@ padded_from : (i w : ℕ) (xs : Bytes) (m : ℕ) → big_from i w (xs ++ replica
 padded_from i zero xs m = refl
 padded_from i (suc w) xs m = ap₂ (λ (b later : ℕ). b * 256 ^ w + later) (slice_index-padded xs m i) (padded_from (suc i) w xs m)
 
--- zeros behind a key are no part of it
+-- zeros after a key are no part of it
 pub lead_padded : (key : Bytes) (m : ℕ) → big_number 8 (key ++ replicate m 0) ≡ lead_of key
 unfolding lead_of
 lead_padded key m = padded_from 0 8 key m

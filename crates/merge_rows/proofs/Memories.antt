@@ -18,7 +18,7 @@ entries_kept low (e ∷ later) all = elim (not (is_before e.key low)) as (λ t. 
   | false ↦ entries_kept low later all.1
 ]
 
--- the first of them at hand, and the others behind it
+-- the first of them at hand, and the others after it
 pub taken_whole : {T : Type 0} (entry : T → Entry) (first : Option T) (old new : List Entry)
     → MatchOption first ((old ≡ []) × (new ≡ [])) (λ found. old ≡ entry found ∷ new) → AllByRecursion IsEntry old
     → (first ≡ None → new ≡ []) × AllByRecursion IsEntry (with_hand (option_map entry first) new)

@@ -14,7 +14,7 @@ use Rattle.map_model.specs.SortedMap.{Bytes, byte_order}
 use Rattle.merge_rows.specs.Rows.{KeyFloor, clears}
 use Rattle.merge_rows.proofs.Keys.{at_or_after, before_of}
 
--- more than there are strings of so many bytes at most
+-- more than there are strings of a given number of bytes at most
 pub strings : ℕ → ℕ
 strings zero = 1
 strings (suc n) = strings n * 257
@@ -82,7 +82,7 @@ abbrev pub step_of : Bool → ℕ
 step_of true = 1
 step_of false = 0
 
--- the number of a floor, of keys of so many bytes at most
+-- the number of a floor, of keys of a given number of bytes at most
 abbrev pub height : ℕ → KeyFloor → ℕ
 height n floor = rank n floor.key + step_of floor.passed
 

@@ -182,7 +182,7 @@ sources_then tells tables image a b c one two = record {
   sound = λ t s. two.sound t (one.sound t s);
 }
 
--- Of merges: behind some hidden rows, one row more, or none.
+-- Of merges: after some hidden rows, one row more, or none.
 module _ (tells : Bool) (tables : List Opened) (image : Image) (first old new : Merge) (stay : SourcesStay tells tables image first old)
     (rows : IsTrue tells → IsSoundMerge first tables image → rows_left old tables image ≡ rows_left first tables image) (rises : FloorRises first.floor old.floor)
     (kept : SourcesStay tells tables image old new)

@@ -1,4 +1,4 @@
--- Blocks that walks passed are sound, and where no walk wants one and none has an entry each is at its end.
+-- Blocks that walks passed are sound, and where no walk needs one and none has an entry each is at its end.
 use Rattle.std.proofs.Common.{◌≡◌, ◌∙◌, ◌≤◌, ◌<◌, ℕ, zero, suc, List, [], ◌∷◌, length, map, get_or, slice_set, refl, sym, ap, subst, Bool, true, false, not, inl, inr, arith}
 use Rattle.std.specs.Prelude.{Option, Some, None, ◌&&◌, is_some}
 use Rattle.std.specs.List.{AllByRecursion}

@@ -1,4 +1,4 @@
--- A merge of tables that stand on a device.
+-- A merge of tables that are on a device.
 use Rattle.std.proofs.Common.{◌≡◌, ℕ, List, [], ◌∷◌, refl, sym, ap, ap₂, ◌∙◌, subst, Bool, true, false, cond, map}
 use Rattle.std.specs.Prelude.{Option, Some, None, bytes_eq}
 use Rattle.std.specs.List.{AllByRecursion}
@@ -91,7 +91,7 @@ merged_cut floor sources = one_list (merged_rows (cut floor sources)) (above_flo
     said_of : Bytes → Type 0
     said_of key = said_by (cut floor sources) key ≡ lookup (above_floor floor (merged_rows sources)) key
 
--- ---- a table that stands there
+-- ---- a table that is there
 
 follow_above : (low : Bytes) (entries : List Entry) → Follow (is_before low) (keys_of entries) → AllByRecursion (ComesBehind low) entries × KeysRise entries
 follow_above low [] follow = (tt, tt)

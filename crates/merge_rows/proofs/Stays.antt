@@ -48,7 +48,7 @@ still_some xs ys same some = subst (λ (n : ℕ). 1 ≤ n) (lengths_are xs ys sa
 pub only_then : (n : ℕ) (a b c : World) → OnlyReads a b → ReadMoves n b c → OnlyReads a c
 only_then n a b c one two = (one.0 + n, reads_then one.0 n a b c one.1 two)
 
--- at most as many reads as blocks that are wanted no more
+-- at most as many reads as blocks that are needed no more
 pub fewer_then : (first now next : ℕ) (a b c : World) → next + 1 ≡ now → (now ≤ first) × ReadMoves (first - now) a b → ReadMoves 1 b c → (next ≤ first) × ReadMoves (first - next) a c
 fewer_then first now next a b c is one two =
     let le = one.0 in

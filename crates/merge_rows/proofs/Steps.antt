@@ -47,7 +47,7 @@ pub stepped_same : (floor : KeyFloor) (old new : CursorWalk) (blocks : List (Lis
     → above_floor floor (with_hand new.now (to_come new blocks)) ≡ above_floor floor (with_hand old.now (to_come old blocks))
 stepped_same floor old new blocks used some out = ap (above_floor floor) (handed old new blocks some out) ∙ sym (used_up floor old.now (to_come old blocks) used)
 
--- of a list whose keys rise, what comes behind the entry at hand
+-- of a list whose keys rise, what comes after the entry at hand
 pub rises_behind : (now : Option Entry) (later : List Entry) → KeysRise (with_hand now later) → KeysRise later
 rises_behind None later rises = rises
 rises_behind (Some e) later rises = rises.1
@@ -108,12 +108,12 @@ ended walk blocks none le =
 
 -- ---- a floor is passed
 
--- the keys behind a row are above its key
+-- the keys after a row are above its key
 clear_above : (low : Bytes) (entries : List Entry) → AllByRecursion (ComesBehind low) entries → Clear (passed_at low) entries
 clear_above low [] above = tt
 clear_above low (e ∷ later) above = (is_before_of low e.key above.0, clear_above low later above.1)
 
--- what is to come behind an entry at hand that is not before the row is above the row's key
+-- what is to come after an entry at hand that is not before the row is above the row's key
 behind_row : (floor : KeyFloor) (low : Bytes) (now : Option Entry) (later : List Entry) → IsCaughtUp floor now (with_hand now later) → IsHeadFrom low now → KeysRise (with_hand now later)
     → Clear (passed_at low) later
 behind_row floor low None later none from rises = subst (Clear (passed_at low)) (sym none) tt

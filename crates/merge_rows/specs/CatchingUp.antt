@@ -12,7 +12,7 @@ use Rattle.merge_rows.specs.Merges.{Merge, TableWalk, blocks_in, left_above, num
 use Rattle.merge_rows.specs.Reads.{BlockOf, HasReadAll, OnlyReads, PassesSound, blocks_left_in, wanted_block_of}
 use Rattle.merge_rows.specs.Rows.{KeyFloor, above_floor}
 use Rattle.merge_rows.specs.Steps.{IsCaughtUp, IsChosen, IsHeadClear, IsSoundWalk}
-use Rattle.table_file.specs.Faults.{HasReadCause, IsNoWant}
+use Rattle.table_file.specs.Faults.{HasReadCause, IsNotMemory}
 use Rattle.table_file.specs.Opened.{Opened}
 use Rattle.table_file.specs.Search.{IsGetFault, page_at}
 use Rattle.table_file.specs.Walks.{first_of}
@@ -24,14 +24,14 @@ pub record CatchesUp (tells : Bool) (floor : KeyFloor) (tables : List Opened) (o
   pub number : new.number ≡ old.number
   pub room : new.walk.room ≡ old.walk.room
   pub same : IsTrue tells → left_above floor tables before.seen.held new ≡ left_above floor tables before.seen.held old
-  pub ready : IsTrue tells → OnOk result (IsCaughtUp floor new.walk.now (walk_left tables before.seen.held new))
-  pub clear : OnOk result (IsHeadClear floor new.walk.now)
+  pub caught_up : IsTrue tells → OnOk result (IsCaughtUp floor new.walk.now (walk_left tables before.seen.held new))
+  pub heads_pass : OnOk result (IsHeadClear floor new.walk.now)
   pub sound : IsTrue tells → IsSoundWalk floor old.walk (blocks_in (numbered tables old.number) before.seen.held)
       → IsSoundWalk floor new.walk (blocks_in (numbered tables old.number) before.seen.held)
   pub read_sound : IsTrue tells → PassesSound tables before.seen.held old new
   pub done : OnOk result (wanted_block_of floor tables new ≡ 0)
   pub read_all : OnOk result (HasReadAll tables new)
-  pub taken : IfErr result IsNoWant
+  pub never_memory : IfErr result IsNotMemory
   pub cause : IfErr result (λ why. BlockOf tables old.number (λ t n. HasReadCause (byte_of_page (page_at t n)) before after why))
   pub fault : IsTrue tells → IfErr result (λ why. BlockOf tables old.number (λ t n. IsGetFault t n before.seen.held why))
   pub moves : OnlyReads before after
@@ -62,7 +62,7 @@ pub record CatchesUpAt (tells : Bool) (tables : List Opened) (at : ℕ) (old new
 pub record MemoryPasses (floor : KeyFloor) (old new : List Entry) : Type 0 where
   pub same : above_floor floor new ≡ above_floor floor old
   pub rises : KeysRise old → KeysRise new
-  pub ready : IsCaughtUp floor (first_of new) new
+  pub caught_up : IsCaughtUp floor (first_of new) new
 
 -- the least of the entries at hand is the row, if its key is below the bound; if not, none of them is below it, and no row is at hand
 abbrev pub IsChosenBefore : Bytes → List (Option Entry) → Option Entry → KeyFloor → KeyFloor → Bool → Type 0

@@ -24,7 +24,7 @@ abbrev pub IsHeadFrom : Bytes → Option Entry → Type 0
 IsHeadFrom key None = Unit {0}
 IsHeadFrom key (Some e) = is_before e.key key ≡ false
 
--- of the entries at hand, this one has the least key, and stands at the first place where one has it
+-- of the entries at hand, this one has the least key, and is at the first place where one has it
 abbrev pub IsLeastAt : List (Option Entry) → ℕ → Entry → Type 0
 IsLeastAt [] place entry = ⊥
 IsLeastAt (head ∷ older) zero entry = (head ≡ Some entry) × AllByRecursion (IsHeadFrom entry.key) older

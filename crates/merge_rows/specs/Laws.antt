@@ -1,4 +1,4 @@
--- A merge of tables that stand on a device gives the rows of their entries.
+-- A merge of tables that are on a device gives the rows of their entries.
 use Rattle.std.specs.Prelude.{◌≡◌, ℕ, Bool, List, [], ◌∷◌, map, Option, Some, None}
 use Rattle.disk_trait.specs.Image.{Image}
 use Rattle.entry_model.specs.Entries.{Entry}
@@ -12,7 +12,7 @@ use Rattle.merge_rows.specs.Steps.{IsSoundMerge}
 use Rattle.table_file.specs.Opened.{Opened}
 use Rattle.table_file.specs.Search.{StandsThere}
 
--- the tables of these numbers stand on the device, each with its blocks
+-- the tables of these numbers are on the device, each with its blocks
 abbrev pub NumberedStand : Spelling → List Opened → Image → List ℕ → List (List (List Entry)) → Type 0
 NumberedStand spelling tables image [] [] = Unit {0}
 NumberedStand spelling tables image (number ∷ which) (blocks ∷ more) =

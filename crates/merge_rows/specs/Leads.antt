@@ -4,7 +4,7 @@ use Rattle.byteorder.specs.Endian.{big_number}
 use Rattle.entry_model.specs.Entries.{Entry}
 use Rattle.map_model.specs.SortedMap.{Bytes}
 
--- the first eight bytes, of which the first is the highest; zeros stand behind a shorter key
+-- the first eight bytes, of which the first is the highest; zeros are after a shorter key
 unfoldable pub lead_of : Bytes → ℕ
 lead_of key = big_number 8 key
 

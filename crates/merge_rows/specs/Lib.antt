@@ -21,4 +21,4 @@ pub mod Filling
 pub mod CatchingUp
 pub mod RowLaws
 pub mod Laws
-pub mod Ends
+pub mod Lends

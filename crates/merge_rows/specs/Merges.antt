@@ -1,4 +1,4 @@
--- Where a merge stands, and the rows that are still to come.
+-- Where a merge is, and the rows that are still to come.
 use Rattle.std.specs.Prelude.{ℕ, ◌-◌, Bool, false, List, [], ◌∷◌, length, map, slice_get, Option, Some, None}
 use Rattle.disk_trait.specs.Image.{Image}
 use Rattle.entry_model.specs.Entries.{Entry}

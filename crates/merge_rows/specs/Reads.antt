@@ -15,7 +15,7 @@ abbrev pub is_used_up : KeyFloor → Option Entry → Bool
 is_used_up floor None = true
 is_used_up floor (Some e) = not (clears floor e.key)
 
--- the next row wants a block of the table: no entry above the floor is in memory
+-- the next row needs a block of the table: no entry above the floor is in memory
 abbrev pub wants : KeyFloor → List Opened → TableWalk → Bool
 wants floor tables w = is_used_up floor w.walk.now && is_due w.walk (row_count (numbered tables w.number))
 
@@ -23,7 +23,7 @@ abbrev pub ones : Bool → ℕ
 ones true = 1
 ones false = 0
 
--- the blocks that the next row wants, one of each such table
+-- the blocks that the next row needs, one of each such table
 abbrev pub wanted_block_of : KeyFloor → List Opened → TableWalk → ℕ
 wanted_block_of floor tables w = ones (wants floor tables w)
 
@@ -96,7 +96,7 @@ BlockOf tables number P = (t : Opened) × (n : ℕ) × (numbered tables number �
 abbrev pub SomeBlock : List Opened → List ℕ → (Opened → ℕ → Type 0) → Type 0
 SomeBlock tables which P = (number : ℕ) × Contains which number × BlockOf tables number P
 
--- a block that was read is wanted no more; one that could not be read was wanted
+-- a block that was read is needed no more; one that could not be read was wanted
 abbrev pub IsFewer : {E : Type 0} → Result Bool E → ℕ → ℕ → Type 0
 IsFewer (Ok true) old new = new + 1 ≡ old
 IsFewer (Ok false) old new = (new ≡ 0) × (old ≡ 0)

@@ -6,7 +6,7 @@ use Rattle.entry_model.specs.Newest.{newest_entries}
 use Rattle.key_base.specs.ByteOrder.{is_before}
 use Rattle.map_model.specs.SortedMap.{Bytes}
 
--- of each key the entry of the first source that has one, where the newest source stands first
+-- of each key the entry of the first source that has one, where the newest source is first
 abbrev pub merged_rows : List (List Entry) → List Entry
 merged_rows sources = newest_entries (joined (reverse sources))
 

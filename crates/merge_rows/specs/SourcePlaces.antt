@@ -1,4 +1,4 @@
--- The places of the sources: the memory stands before the walks.
+-- The places of the sources: the memory is before the walks.
 use Rattle.std.specs.Prelude.{ℕ, suc, ◌<◌, List, length, slice_get, Option, Some, None}
 use Rattle.std.specs.Option.{option_map_or}
 use Rattle.entry_model.specs.Entries.{Entry}

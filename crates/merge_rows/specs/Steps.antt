@@ -129,7 +129,7 @@ IsLeastRow m = IfSome m.now (λ row. AllByRecursion (λ (w : TableWalk). IsHeadF
 -- Each walk has caught up with the old floor, where the same is left of it, and no entry at hand is before the row.
 pub record IsPaced (tables : List Opened) (image : Image) (old new : Merge) : Type 0 where
   pub same : map (left_above old.floor tables image) new.walks ≡ map (left_above old.floor tables image) old.walks
-  pub ready : AreCaughtUp old.floor tables image new.walks
+  pub caught_up : AreCaughtUp old.floor tables image new.walks
   pub least : IsLeastRow new
 
 -- ---- walks that pass over what is in memory

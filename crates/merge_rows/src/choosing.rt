@@ -20,7 +20,7 @@ pub(crate) enum Source {
 impl Source {
     ghost use Rattle.merge_rows.specs.SourcePlaces.{IsSourceIn, head_at, place_in};
 
-    /// The first of the sources whose entry at hand has the least key: the memory stands before the walks.
+    /// The first of the sources whose entry at hand has the least key: the memory is before the walks.
     ///
     /// A comparison with each. No memory.
     #[inline(always)]

@@ -1,4 +1,4 @@
-//! The blocks that the next row wants.
+//! The blocks that the next row needs.
 ghost use Rattle.disk_trait.specs.World.{ReadMoves};
 ghost use Rattle.merge_rows.specs.Filling.{AsksWalks, FillsWalks};
 ghost use Rattle.merge_rows.specs.SourcePlaces.{IsChosenIn};
@@ -11,8 +11,8 @@ use disk_trait::Disk;
 use filter_api::RangeFilter;
 use table_file::{TableFault, Tables};
 
-/// Reads a block for the first of the walks that wants one, as [`fill_first`] does. The walk of the last row passes its entry
-/// first: which one that is needs no guess then, and all the others stand above the floor, but for older entries of its key.
+/// Reads a block for the first of the walks that needs one, as [`fill_first`] does. The walk of the last row passes its entry
+/// first: which one that is needs no guess then, and all the others are above the floor, but for older entries of its key.
 #[inline(always)]
 pub(crate) fn fill_behind<F: RangeFilter, D: Disk>(
     row: Option<Source>,
@@ -29,7 +29,7 @@ pub(crate) fn fill_behind<F: RangeFilter, D: Disk>(
     fill_first(walks, disk, tables, floor)
 }
 
-/// Whether one of the walks wants a block, as [`wants_any`] says. The walk of the last row passes its entry first.
+/// Whether one of the walks needs a block, as [`wants_any`] says. The walk of the last row passes its entry first.
 pub(crate) fn wants_behind<F: RangeFilter, D: Disk>(
     row: Option<Source>,
     walks: &mut [TableSource],

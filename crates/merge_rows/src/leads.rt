@@ -10,7 +10,7 @@ use std::cmp::Ordering;
 /// The bytes of a lead.
 pub(crate) const LEAD_BYTES: usize = 8;
 
-/// The first eight bytes of a key as one number, of which the first is the highest; zeros stand behind a shorter key. A key
+/// The first eight bytes of a key as one number, of which the first is the highest; zeros are after a shorter key. A key
 /// with a lesser lead is before the other one; where two leads are the same, the keys may differ.
 pub(crate) fn lead_of(key: &[u8]) -> u64
     ensures { result ≡ lead_of key.now }

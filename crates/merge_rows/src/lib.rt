@@ -3,7 +3,7 @@
 //! [`MergeRows`] walks a memory table and tables side by side, the newest first, and hands out of each key the entry of the
 //! first of them that has one: that is what a store says of the key, a tombstone where it was deleted last. A table's value
 //! lies where it was read, in a buffer of that table's; its key, of which a block spells only what it does not share with
-//! the one before, is built beside it. A block is read once the next row wants one. On a device whose blocks do not rise,
+//! the one before, is built beside it. A block is read once the next row needs one. On a device whose blocks do not rise,
 //! which no table that was written has, an entry that is not above the last row is passed over.
 //!
 //! It takes for each table room for its largest block, of 4,096 bytes where all its blocks have one page, and for a key;
@@ -21,11 +21,10 @@ mod choosing;
 pub mod examples;
 mod filling;
 mod floor;
-mod laws;
+pub mod laws;
 mod leads;
 mod memory_source;
 mod rows;
 mod table_source;
 
-pub use laws::{merged_laws, standing_tables_are_merged};
 pub use rows::MergeRows;

@@ -77,7 +77,7 @@ impl<'m> MemorySource<'m> {
     #[inline(always)]
     pub(crate) fn catch_up(&mut self, floor: &Floor)
         ensures same { above_floor floor.now self.new ≡ above_floor floor.now self.old }
-        ensures ready { IsCaughtUp floor.now (first_of self.new) self.new }
+        ensures caught_up { IsCaughtUp floor.now (first_of self.new) self.new }
         ensures rises { KeysRise self.old → KeysRise self.new }
     {
         while let Some((key, _)) = self.entry() {

@@ -14,7 +14,7 @@ ghost use Rattle.merge_rows.specs.Merges.{TableWalk, merge_from, merged_left, nu
 ghost use Rattle.merge_rows.specs.Reads.{AreAtEnd, HaveReadAll, IsFewer, IsRead, OnlyReads, PassSound, SomeBlock, blocks_left, next_blocks, next_numbers, wanted, wanted_by};
 ghost use Rattle.merge_rows.specs.Steps.{AreCaughtUp, AreHeadsClear, AreNumbersIn, AreWalksIn, HandsOutRow, IsCaughtUp, IsChosen, IsFaultStep, IsLeastRow, IsPaced, IsRowStep, IsSoundMerge, RowPasses, SourcesStay, StaysAt, numbers, stands};
 ghost use Rattle.merge_rows.specs.Rows.{above_floor};
-ghost use Rattle.table_file.specs.Faults.{HasReadCause, IsNoWant};
+ghost use Rattle.table_file.specs.Faults.{HasReadCause, IsNotMemory};
 ghost use Rattle.table_file.specs.Opened.{Opened};
 ghost use Rattle.table_file.specs.Search.{IsGetFault, page_at};
 ghost use Rattle.table_file.specs.Walks.{first_of};
@@ -34,7 +34,7 @@ use table_file::{TableFault, Tables};
 
 /// The rows of a memory table and of tables: the newest entry of each key, by rising keys.
 ///
-/// It borrows the memory table alone: each call is handed the same tables, before which others may stand meanwhile. Without a
+/// It borrows the memory table alone: each call is handed the same tables, before which others may be meanwhile. Without a
 /// memory table it borrows nothing: a `MergeRows<'static>` can be kept.
 #[derive(Drop)]
 pub struct MergeRows<'m> {
@@ -58,7 +58,7 @@ impl<'m> Model for MergeRows<'m> {
 }
 
 impl<'m> MergeRows<'m> {
-    ghost use Rattle.merge_rows.specs.Ends.{merge_ends};
+    ghost use Rattle.merge_rows.specs.Lends.{merge_ends};
 
     /// The rows from a bound on of a memory table, where one is given, and of the tables of some numbers, the newest first.
     /// Tables are numbered from the last, which has 0. Tombstones are rows too, unless they are dropped: a step then reads on over
@@ -100,7 +100,7 @@ impl<'m> MergeRows<'m> {
             × IfOk result (λ found. option_map (λ f. entry_of f.0.now (option_map (λ v. v.now) f.1)) found ≡ m.now)
             × (IsTrue D.tells → OnOk result ((D.world disk.new).seen.reads + next_blocks self.old.walks ≡ (D.world disk.old).seen.reads + next_blocks m.walks)))) }
         ensures sound { IfOk result (λ found. IfSome found (λ f. IsEntry (entry_of f.0.now (option_map (λ v. v.now) f.1)))) }
-        ensures taken { IfErr result IsNoWant }
+        ensures never_memory { IfErr result IsNotMemory }
         ensures cause { IfErr result (λ why. SomeBlock tables.now.tables (numbers self.old.walks) (λ t n. HasReadCause (byte_of_page (page_at t n)) (D.world disk.old) (D.world disk.new) why)) }
         ensures fault { IsTrue D.tells → IfErr result (λ why. SomeBlock tables.now.tables (numbers self.old.walks) (λ t n. IsGetFault t n (D.world disk.old).seen.held why)) }
         ensures moves { OnlyReads (D.world disk.old) (D.world disk.new) }
@@ -128,7 +128,7 @@ impl<'m> MergeRows<'m> {
     /// Goes on to the next row, and answers whether there is one: it is then at hand. No memory.
     ///
     /// A block is read of each table that has no entry above the last row in memory, and of no other. At `Err` no row is lost:
-    /// the next call goes on where this one stood. Whatever stands on the device, keys rise from row to row, each block that was
+    /// the next call goes on where this one stood. Whatever is on the device, keys rise from row to row, each block that was
     /// passed is sound, and at the end no table has a block that was not read.
     //
     // A scan takes a step for each pair: where its parts are calls, results go by memory, and a pair costs more.
@@ -144,15 +144,15 @@ impl<'m> MergeRows<'m> {
         ensures row { OnOk result (IsRowStep D.tells tables.now.tables (D.world disk.old).seen.held self.old self.new) }
         ensures stays { OnErr result (IsFaultStep D.tells tables.now.tables (D.world disk.old).seen.held self.old self.new) }
         ensures sound { OnOk result (IfSome self.new.now IsEntry) }
-        ensures met { OnErr result (1 ≤ length self.old.walks) }
-        ensures owed { IsTrue D.tells → self.old.drops ≡ false → IsSoundMerge self.old tables.now.tables (D.world disk.old).seen.held → OnErr result (1 ≤ wanted self.old tables.now.tables) }
-        ensures paced { IsTrue D.tells → self.old.drops ≡ false → OnOk result (IsPaced tables.now.tables (D.world disk.old).seen.held self.old self.new) }
+        ensures only_if_read { OnErr result (1 ≤ length self.old.walks) }
+        ensures only_if_wanted { IsTrue D.tells → self.old.drops ≡ false → IsSoundMerge self.old tables.now.tables (D.world disk.old).seen.held → OnErr result (1 ≤ wanted self.old tables.now.tables) }
+        ensures caught_up_past { IsTrue D.tells → self.old.drops ≡ false → OnOk result (IsPaced tables.now.tables (D.world disk.old).seen.held self.old self.new) }
         ensures read_sound { IsTrue D.tells → PassSound tables.now.tables (D.world disk.old).seen.held self.old.walks self.new.walks }
         ensures done { OnOk result (wanted_by self.old.floor tables.now.tables self.new.walks ≡ 0) }
         ensures read_all { OnOk result (HaveReadAll tables.now.tables self.new.walks) }
         ensures ended { IfOk result (λ some. some ≡ false → AreAtEnd tables.now.tables self.new.walks) }
         ensures least { OnOk result (IsLeastRow self.new) }
-        ensures taken { IfErr result IsNoWant }
+        ensures never_memory { IfErr result IsNotMemory }
         ensures cause { IfErr result (λ why. SomeBlock tables.now.tables (numbers self.old.walks) (λ t n. HasReadCause (byte_of_page (page_at t n)) (D.world disk.old) (D.world disk.new) why)) }
         ensures fault { IsTrue D.tells → IfErr result (λ why. SomeBlock tables.now.tables (numbers self.old.walks) (λ t n. IsGetFault t n (D.world disk.old).seen.held why)) }
         ensures moves { OnlyReads (D.world disk.old) (D.world disk.new) }
@@ -177,7 +177,7 @@ impl<'m> MergeRows<'m> {
         }
     }
 
-    /// Reads one block that the next row wants, and answers whether it read; if not, the next row wants none. Then no row is
+    /// Reads one block that the next row needs, and answers whether it read; if not, the next row needs none. Then no row is
     /// at hand. No memory. Who counts blocks asks for it before [`advance`](MergeRows::advance).
     ///
     /// At `Err` no row is lost.
@@ -192,13 +192,13 @@ impl<'m> MergeRows<'m> {
         requires { AreWalksIn tables.now.tables (stands self.old.walks) }
         ensures stays { StaysAt D.tells tables.now.tables (D.world disk.old).seen.held self.old self.new }
         ensures memory { self.new.memory ≡ self.old.memory }
-        ensures ready { IsTrue D.tells → IfOk result (λ read. read ≡ false → AreCaughtUp self.old.floor tables.now.tables (D.world disk.old).seen.held self.new.walks) }
-        ensures clear { IfOk result (λ read. read ≡ false → AreHeadsClear self.old.floor self.new.walks) }
-        ensures met { OnErr result (1 ≤ length self.old.walks) }
+        ensures caught_up { IsTrue D.tells → IfOk result (λ read. read ≡ false → AreCaughtUp self.old.floor tables.now.tables (D.world disk.old).seen.held self.new.walks) }
+        ensures heads_pass { IfOk result (λ read. read ≡ false → AreHeadsClear self.old.floor self.new.walks) }
+        ensures only_if_read { OnErr result (1 ≤ length self.old.walks) }
         ensures read_sound { IsTrue D.tells → PassSound tables.now.tables (D.world disk.old).seen.held self.old.walks self.new.walks }
         ensures done { IfOk result (λ read. read ≡ false → wanted self.new tables.now.tables ≡ 0) }
         ensures read_all { IfOk result (λ read. read ≡ false → HaveReadAll tables.now.tables self.new.walks) }
-        ensures taken { IfErr result IsNoWant }
+        ensures never_memory { IfErr result IsNotMemory }
         ensures cause { IfErr result (λ why. SomeBlock tables.now.tables (numbers self.old.walks) (λ t n. HasReadCause (byte_of_page (page_at t n)) (D.world disk.old) (D.world disk.new) why)) }
         ensures fault { IsTrue D.tells → IfErr result (λ why. SomeBlock tables.now.tables (numbers self.old.walks) (λ t n. IsGetFault t n (D.world disk.old).seen.held why)) }
         ensures moves { ReadMoves 2 (D.world disk.old) (D.world disk.new) }
@@ -213,14 +213,14 @@ impl<'m> MergeRows<'m> {
         fill_behind(row, &mut self.walks, disk, tables, &self.floor)
     }
 
-    /// Whether the next row wants a block. Then no row is at hand. No read and no memory. Who may read no block more asks this
+    /// Whether the next row needs a block. Then no row is at hand. No read and no memory. Who may read no block more asks this
     /// before [`advance_filled`](MergeRows::advance_filled).
     pub fn wants_block<F: RangeFilter, D: Disk>(&mut self, disk: &mut D, tables: &Tables<F>) -> bool
         requires { AreWalksIn tables.now.tables (stands self.old.walks) }
         ensures stays { StaysAt D.tells tables.now.tables (D.world disk.old).seen.held self.old self.new }
         ensures memory { self.new.memory ≡ self.old.memory }
-        ensures ready { IsTrue D.tells → result ≡ false → AreCaughtUp self.old.floor tables.now.tables (D.world disk.old).seen.held self.new.walks }
-        ensures clear { result ≡ false → AreHeadsClear self.old.floor self.new.walks }
+        ensures caught_up { IsTrue D.tells → result ≡ false → AreCaughtUp self.old.floor tables.now.tables (D.world disk.old).seen.held self.new.walks }
+        ensures heads_pass { result ≡ false → AreHeadsClear self.old.floor self.new.walks }
         ensures some { result ≡ true → 1 ≤ wanted self.new tables.now.tables }
         ensures none { result ≡ false → wanted self.new tables.now.tables ≡ 0 }
         ensures read_all { result ≡ false → HaveReadAll tables.now.tables self.new.walks }
@@ -235,12 +235,12 @@ impl<'m> MergeRows<'m> {
         wants_behind(row, &mut self.walks, disk, tables, &self.floor)
     }
 
-    /// Goes on to the next row where it wants no block, as behind a [`fill`](MergeRows::fill) that did not read, or where
-    /// [`wants_block`](MergeRows::wants_block) says so, and answers whether there is one: it is then at hand. No read and no memory. Not where tombstones are dropped: the rows behind them
-    /// may want blocks.
+    /// Goes on to the next row where it needs no block, as after a [`fill`](MergeRows::fill) that did not read, or where
+    /// [`wants_block`](MergeRows::wants_block) says so, and answers whether there is one: it is then at hand. No read and no memory. Not where tombstones are dropped: the rows after them
+    /// may need blocks.
     pub fn advance_filled(&mut self) -> bool
         requires whole { self.old.drops ≡ false }
-        requires clear { AreHeadsClear self.old.floor self.old.walks }
+        requires heads_pass { AreHeadsClear self.old.floor self.old.walks }
         ensures said { result ≡ is_some self.new.now }
         ensures walks { self.new.walks ≡ self.old.walks }
         ensures sound { IfSome self.new.now IsEntry }
@@ -328,15 +328,15 @@ impl<'m> MergeRows<'m> {
         ensures passes { OnOk result (RowPasses self.new.now self.old.floor self.new.floor) }
         ensures sound { OnOk result (IfSome self.new.now IsEntry) }
         ensures stays { OnErr result (StaysAt D.tells tables.now.tables (D.world disk.old).seen.held self.old self.new) }
-        ensures met { OnErr result (1 ≤ length self.old.walks) }
-        ensures owed { IsTrue D.tells → IsSoundMerge self.old tables.now.tables (D.world disk.old).seen.held → OnErr result (1 ≤ wanted self.old tables.now.tables) }
-        ensures paced { IsTrue D.tells → OnOk result (IsPaced tables.now.tables (D.world disk.old).seen.held self.old self.new) }
+        ensures only_if_read { OnErr result (1 ≤ length self.old.walks) }
+        ensures only_if_wanted { IsTrue D.tells → IsSoundMerge self.old tables.now.tables (D.world disk.old).seen.held → OnErr result (1 ≤ wanted self.old tables.now.tables) }
+        ensures caught_up_past { IsTrue D.tells → OnOk result (IsPaced tables.now.tables (D.world disk.old).seen.held self.old self.new) }
         ensures read_sound { IsTrue D.tells → PassSound tables.now.tables (D.world disk.old).seen.held self.old.walks self.new.walks }
         ensures done { OnOk result (wanted_by self.old.floor tables.now.tables self.new.walks ≡ 0) }
         ensures read_all { OnOk result (HaveReadAll tables.now.tables self.new.walks) }
         ensures ended { IfOk result (λ some. some ≡ false → AreAtEnd tables.now.tables self.new.walks) }
         ensures least { OnOk result (IsLeastRow self.new) }
-        ensures taken { IfErr result IsNoWant }
+        ensures never_memory { IfErr result IsNotMemory }
         ensures cause { IfErr result (λ why. SomeBlock tables.now.tables (numbers self.old.walks) (λ t n. HasReadCause (byte_of_page (page_at t n)) (D.world disk.old) (D.world disk.new) why)) }
         ensures fault { IsTrue D.tells → IfErr result (λ why. SomeBlock tables.now.tables (numbers self.old.walks) (λ t n. IsGetFault t n (D.world disk.old).seen.held why)) }
         ensures moves { OnlyReads (D.world disk.old) (D.world disk.new) }
@@ -360,7 +360,7 @@ impl<'m> MergeRows<'m> {
         ensures walks { self.new.walks ≡ self.old.walks }
         ensures same { above_floor self.old.floor self.new.memory ≡ above_floor self.old.floor self.old.memory }
         ensures rises { KeysRise self.old.memory → KeysRise self.new.memory }
-        ensures ready { IsCaughtUp self.old.floor (first_of self.new.memory) self.new.memory }
+        ensures caught_up { IsCaughtUp self.old.floor (first_of self.new.memory) self.new.memory }
     {
         self.row = None;
         self.memory.catch_up(&self.floor);
@@ -376,14 +376,14 @@ impl<'m> MergeRows<'m> {
         requires { AreWalksIn tables.now.tables (stands self.old.walks) }
         ensures stays { StaysAt D.tells tables.now.tables (D.world disk.old).seen.held self.old self.new }
         ensures memory { IsCaughtUp self.old.floor (first_of self.new.memory) self.new.memory }
-        ensures ready { IsTrue D.tells → OnOk result (AreCaughtUp self.old.floor tables.now.tables (D.world disk.old).seen.held self.new.walks) }
-        ensures clear { OnOk result (AreHeadsClear self.old.floor self.new.walks) }
-        ensures met { OnErr result (1 ≤ length self.old.walks) }
-        ensures owed { IsTrue D.tells → IsSoundMerge self.old tables.now.tables (D.world disk.old).seen.held → OnErr result (1 ≤ wanted self.old tables.now.tables) }
+        ensures caught_up { IsTrue D.tells → OnOk result (AreCaughtUp self.old.floor tables.now.tables (D.world disk.old).seen.held self.new.walks) }
+        ensures heads_pass { OnOk result (AreHeadsClear self.old.floor self.new.walks) }
+        ensures only_if_read { OnErr result (1 ≤ length self.old.walks) }
+        ensures only_if_wanted { IsTrue D.tells → IsSoundMerge self.old tables.now.tables (D.world disk.old).seen.held → OnErr result (1 ≤ wanted self.old tables.now.tables) }
         ensures read_sound { IsTrue D.tells → PassSound tables.now.tables (D.world disk.old).seen.held self.old.walks self.new.walks }
         ensures done { OnOk result (wanted_by self.old.floor tables.now.tables self.new.walks ≡ 0) }
         ensures read_all { OnOk result (HaveReadAll tables.now.tables self.new.walks) }
-        ensures taken { IfErr result IsNoWant }
+        ensures never_memory { IfErr result IsNotMemory }
         ensures cause { IfErr result (λ why. SomeBlock tables.now.tables (numbers self.old.walks) (λ t n. HasReadCause (byte_of_page (page_at t n)) (D.world disk.old) (D.world disk.new) why)) }
         ensures fault { IsTrue D.tells → IfErr result (λ why. SomeBlock tables.now.tables (numbers self.old.walks) (λ t n. IsGetFault t n (D.world disk.old).seen.held why)) }
         ensures moves { OnlyReads (D.world disk.old) (D.world disk.new) }

@@ -13,7 +13,7 @@ ghost use Rattle.merge_rows.specs.Merges.{blocks_in, left_above, numbered, walk_
 ghost use Rattle.merge_rows.specs.Reads.{BlockOf, HasReadAll, IsFewer, IsRead, PassesSound, blocks_left_in, is_used_up, ones, wanted_block_of};
 ghost use Rattle.merge_rows.specs.Rows.{above_floor};
 ghost use Rattle.merge_rows.specs.Steps.{AreWalksIn, HasRoomFor, IsCaughtUp, IsHeadClear, IsPassed, IsSoundWalk, numbers, stands};
-ghost use Rattle.table_file.specs.Faults.{HasReadCause, IsNoWant};
+ghost use Rattle.table_file.specs.Faults.{HasReadCause, IsNotMemory};
 ghost use Rattle.table_file.specs.Search.{IsGetFault, page_at};
 ghost use Rattle.table_file.specs.Walks.{blocks_on, is_due, most_block_pages, to_come};
 
@@ -146,8 +146,8 @@ impl TableSource {
         ensures same { IsTrue D.tells → above_floor floor.now (with_hand self.new.walk.now (to_come self.new.walk (blocks_on table.now (D.world disk.old).seen.held)))
             ≡ above_floor floor.now (with_hand self.old.walk.now (to_come self.old.walk (blocks_on table.now (D.world disk.old).seen.held))) }
         ensures wanted { result ≡ (is_used_up floor.now self.new.walk.now && is_due self.new.walk (length table.now.index.rows)) }
-        ensures ready { IsTrue D.tells → result ≡ false → IsCaughtUp floor.now self.new.walk.now (with_hand self.new.walk.now (to_come self.new.walk (blocks_on table.now (D.world disk.old).seen.held))) }
-        ensures clear { result ≡ false → IsHeadClear floor.now self.new.walk.now }
+        ensures caught_up { IsTrue D.tells → result ≡ false → IsCaughtUp floor.now self.new.walk.now (with_hand self.new.walk.now (to_come self.new.walk (blocks_on table.now (D.world disk.old).seen.held))) }
+        ensures heads_pass { result ≡ false → IsHeadClear floor.now self.new.walk.now }
         ensures read_all { result ≡ false → self.new.walk.now ≡ None → length table.now.index.rows ≤ self.new.walk.block }
         ensures still { (is_used_up floor.now self.old.walk.now && is_due self.old.walk (length table.now.index.rows)) ≡ true → (result ≡ true) × (self.new ≡ self.old) }
         ensures settled { is_used_up floor.now self.old.walk.now ≡ false → (result ≡ false) × (self.new ≡ self.old) }
@@ -193,8 +193,8 @@ impl TableSource {
         ensures wanted { IsTrue D.tells → IsSoundWalk floor.now self.old.walk (blocks_in (numbered tables.now.tables self.old.number) (D.world disk.old).seen.held)
             → wanted_block_of floor.now tables.now.tables self.new ≡ wanted_block_of floor.now tables.now.tables self.old }
         ensures asked { wanted_block_of floor.now tables.now.tables self.new ≡ ones result }
-        ensures ready { IsTrue D.tells → result ≡ false → IsCaughtUp floor.now self.new.walk.now (walk_left tables.now.tables (D.world disk.old).seen.held self.new) }
-        ensures clear { result ≡ false → IsHeadClear floor.now self.new.walk.now }
+        ensures caught_up { IsTrue D.tells → result ≡ false → IsCaughtUp floor.now self.new.walk.now (walk_left tables.now.tables (D.world disk.old).seen.held self.new) }
+        ensures heads_pass { result ≡ false → IsHeadClear floor.now self.new.walk.now }
         ensures read_all { result ≡ false → HasReadAll tables.now.tables self.new }
         ensures moves { ReadMoves 0 (D.world disk.old) (D.world disk.new) }
     {
@@ -205,10 +205,10 @@ impl TableSource {
     /// Passes over the entries in memory that are not above the floor, and reads a block where none is left then: the next one.
     /// Answers whether it read. If not, an entry above the floor is at hand, or none is left. No memory.
     ///
-    /// Where blocks do not rise, which those of a sound table do, no entry above the floor may be at hand behind a read. At
+    /// Where blocks do not rise, which those of a sound table do, no entry above the floor may be at hand after a read. At
     /// `Err` no entry above the floor is lost.
     //
-    // Most walks lead and want none, which the caller asks first: the question goes into each step, the rest into none.
+    // Most walks lead and need none, which the caller asks first: the question goes into each step, the rest into none.
     #[inline(never)]
     pub(crate) fn fill<F: RangeFilter, D: Disk>(
         &mut self,
@@ -221,14 +221,14 @@ impl TableSource {
         ensures number { self.new.number ≡ self.old.number }
         ensures room { self.new.walk.room ≡ self.old.walk.room }
         ensures same { IsTrue D.tells → left_above floor.now tables.now.tables (D.world disk.old).seen.held self.new ≡ left_above floor.now tables.now.tables (D.world disk.old).seen.held self.old }
-        ensures ready { IsTrue D.tells → IfOk result (λ read. read ≡ false → IsCaughtUp floor.now self.new.walk.now (walk_left tables.now.tables (D.world disk.old).seen.held self.new)) }
-        ensures clear { IfOk result (λ read. read ≡ false → IsHeadClear floor.now self.new.walk.now) }
+        ensures caught_up { IsTrue D.tells → IfOk result (λ read. read ≡ false → IsCaughtUp floor.now self.new.walk.now (walk_left tables.now.tables (D.world disk.old).seen.held self.new)) }
+        ensures heads_pass { IfOk result (λ read. read ≡ false → IsHeadClear floor.now self.new.walk.now) }
         ensures sound { IsTrue D.tells → IsSoundWalk floor.now self.old.walk (blocks_in (numbered tables.now.tables self.old.number) (D.world disk.old).seen.held)
             → IsSoundWalk floor.now self.new.walk (blocks_in (numbered tables.now.tables self.old.number) (D.world disk.old).seen.held) }
         ensures read_sound { IsTrue D.tells → PassesSound tables.now.tables (D.world disk.old).seen.held self.old self.new }
         ensures done { IfOk result (λ read. read ≡ false → wanted_block_of floor.now tables.now.tables self.new ≡ 0) }
         ensures read_all { IfOk result (λ read. read ≡ false → HasReadAll tables.now.tables self.new) }
-        ensures taken { IfErr result IsNoWant }
+        ensures never_memory { IfErr result IsNotMemory }
         ensures cause { IfErr result (λ why. BlockOf tables.now.tables self.old.number (λ t n. HasReadCause (byte_of_page (page_at t n)) (D.world disk.old) (D.world disk.new) why)) }
         ensures fault { IsTrue D.tells → IfErr result (λ why. BlockOf tables.now.tables self.old.number (λ t n. IsGetFault t n (D.world disk.old).seen.held why)) }
         ensures moves { ReadMoves 2 (D.world disk.old) (D.world disk.new) }
@@ -277,7 +277,7 @@ impl TableSource {
     }
 }
 
-/// One of the walks passes over the entries in memory that are not above the floor. No read and no memory: each of them wants a
+/// One of the walks passes over the entries in memory that are not above the floor. No read and no memory: each of them needs a
 /// block then where it wanted one.
 pub(crate) fn pass_one<F: RangeFilter, D: Disk>(
     walks: &mut [TableSource],
@@ -312,7 +312,7 @@ pub(crate) fn catch_up_one<F: RangeFilter, D: Disk>(
     walks[at].catch_up(disk, tables, floor)
 }
 
-/// Reads a block for the first of the walks that wants one, and answers whether it read. If not, each walk has an entry above
+/// Reads a block for the first of the walks that needs one, and answers whether it read. If not, each walk has an entry above
 /// the floor at hand, or none is left of it. No memory.
 ///
 /// At `Err` no entry above the floor is lost.
@@ -326,7 +326,7 @@ pub(crate) fn fill_first<F: RangeFilter, D: Disk>(
     ensures { FillsWalks D.tells floor.now tables.now.tables walks.old walks.new result (D.world disk.old) (D.world disk.new) }
 {
     for i in 0..walks.len() {
-        // most walks stand above the floor already, and want none
+        // most walks are above the floor already, and need none
         if walks[i].leads(floor) {
             continue;
         }
@@ -339,7 +339,7 @@ pub(crate) fn fill_first<F: RangeFilter, D: Disk>(
     Ok(false)
 }
 
-/// Whether one of the walks wants a block, once each has passed over the entries in memory that are not above the floor. If not,
+/// Whether one of the walks needs a block, once each has passed over the entries in memory that are not above the floor. If not,
 /// each has an entry above the floor at hand, or none is left of it. No read and no memory.
 pub(crate) fn wants_any<F: RangeFilter, D: Disk>(
     walks: &mut [TableSource],
@@ -352,7 +352,7 @@ pub(crate) fn wants_any<F: RangeFilter, D: Disk>(
     ensures moves { ReadMoves 0 (D.world disk.old) (D.world disk.new) }
 {
     for i in 0..walks.len() {
-        // most walks stand above the floor already, and want none
+        // most walks are above the floor already, and need none
         if walks[i].leads(floor) {
             continue;
         }

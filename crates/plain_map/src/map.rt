@@ -3,6 +3,7 @@ ghost use Rattle.std.specs.Prelude.{◌≡◌, ◌<◌, ◌≤◌, ◌↔◌, []
 ghost use Rattle.std.specs.Option.{option_map};
 ghost use Rattle.map_model.specs.SortedMap.{Bytes, get, put, del, Rises};
 ghost use Rattle.map_model.specs.Slices.{slice, seek, count};
+ghost use Rattle.range_model.specs.Clearing.{clear};
 
 use super::pair::Pair;
 use std::alloc::{AllocError, Global};
@@ -53,6 +54,13 @@ impl PlainMap {
         ensures { self.new ≡ del self.old key.now }
     {
         self.pairs.retain(|pair| !pair.has_key(key));
+    }
+
+    /// Takes all keys away from `lo` on and up to `hi` without it. Where `lo` is not below `hi` there are none.
+    pub fn clear(&mut self, lo: &[u8], hi: &[u8])
+        ensures { self.new ≡ clear self.old lo.now hi.now }
+    {
+        self.pairs.retain(|pair| !pair.lies_within(lo, hi));
     }
 
     /// The value of the key, or `None` where the map has none.

@@ -3,6 +3,7 @@ ghost use Rattle.std.specs.Prelude.{◌≡◌, IfOk, bytes_eq};
 ghost use Rattle.std.specs.Option.{option_map};
 ghost use Rattle.map_model.specs.SortedMap.{byte_order};
 ghost use Rattle.map_model.specs.Slices.{is_between};
+ghost use Rattle.range_model.specs.Clearing.{lies_within};
 
 use std::alloc::{AllocError, Global};
 use std::cmp::Ordering;
@@ -66,6 +67,14 @@ impl Pair {
         ensures { result ≡ byte_order key.now self.now.0 }
     {
         key.cmp(self.key.as_slice())
+    }
+
+    /// Whether the key is not below `lo`, and below `hi`.
+    pub(crate) fn lies_within(&self, lo: &[u8], hi: &[u8]) -> bool
+        ensures { result ≡ lies_within lo.now hi.now self.now.0 }
+    {
+        let key = self.key.as_slice();
+        !key.cmp(lo).is_lt() && key.cmp(hi).is_lt()
     }
 
     /// Whether the key lies between the two, both included.

@@ -10,6 +10,7 @@ pub use Rattle.state_model.specs.Taken
 pub use Rattle.state_model.specs.View
 pub use Rattle.store_commands.specs.Asks
 pub use Rattle.table_model.specs.Tables
+pub mod ChangeKinds
 pub mod Refusals
 pub mod Replies
 pub mod Slices

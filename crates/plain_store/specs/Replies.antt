@@ -24,7 +24,7 @@ says ManyTables = reply.ManyTables
 says LastEpoch = reply.LastEpoch
 says (Full need gap) = reply.Full need gap
 
--- the code's answer: a reply, and the state behind it
+-- the code's answer: a reply, and the state after it
 abbrev pub answered : Answer → steps.Answer
 answered a = (says a.reply, a.state)
 

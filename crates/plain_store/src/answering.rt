@@ -2,6 +2,7 @@
 ghost use Rattle.std.specs.Prelude.{◌≡◌, ◌∷◌, [], map, IfOk};
 ghost use Rattle.std.specs.Option.{option_map};
 ghost use Rattle.table_model.specs.Tables.{filter_bytes_of};
+ghost use Rattle.range_model.specs.Sources.{Sets};
 ghost use Rattle.state_model.specs.Changes.{written};
 ghost use Rattle.state_model.specs.Play.{tended_by, played_by, played, played_in_slices};
 ghost use Rattle.line_model.specs.Replies.{Bye};
@@ -12,6 +13,7 @@ ghost use Rattle.plain_store.specs.Slices.{merge_as};
 ghost use Rattle.store_commands.specs.Asks.{asked};
 ghost use Rattle.plain_store.specs.Replies.{says, answered, played_as};
 
+use crate::change::Change;
 use crate::changes::{Refusal, compacted, flushed, written};
 use crate::installing::{merged, sliced};
 use crate::limits::limit_of;
@@ -26,7 +28,7 @@ use filter_api::RangeFilter;
 use std::alloc::{AllocError, Global};
 use store_commands::Request;
 
-/// A reply, and the state behind it.
+/// A reply, and the state after it.
 #[derive(Drop)]
 pub struct Answer {
     pub reply: Reply,
@@ -83,10 +85,11 @@ fn write<F: RangeFilter>(
     key: &[u8],
     value: Option<&[u8]>,
 ) -> Result<Answer, AllocError>
-    ensures { IfOk result (λ a. answered a ≡ model.done_or_refused state.now (written (filter_bytes_of F.spelling F.built_cutoff) state.now (record { key = key.now; value = option_map (λ v. v.now) value.entry }))) }
+    ensures { IfOk result (λ a. answered a ≡ model.done_or_refused state.now (written (filter_bytes_of F.spelling F.built_cutoff) state.now (Sets (record { key = key.now; value = option_map (λ v. v.now) value.entry })))) }
 {
     let entry = Entry::new(alloc, key, value)?;
-    changed(alloc, state, written::<F>(alloc, state, &entry)?)
+    let change = Change::Sets(entry);
+    changed(alloc, state, written::<F>(alloc, state, &change)?)
 }
 
 fn flush<F: RangeFilter>(alloc: Global, state: &State) -> Result<Answer, AllocError>
@@ -160,12 +163,12 @@ pub fn ask<F: RangeFilter>(
     }
 }
 
-/// How a merge is done behind a put and a del.
+/// How a merge is done after a put and a del.
 #[derive(Clone, Copy)]
 pub enum Merge {
     /// Whole, in one merge slice.
     Whole,
-    /// In merge slices that read so many blocks each.
+    /// In merge slices that read a given number of blocks each.
     Slices(u64),
 }
 
@@ -179,7 +182,7 @@ fn merge_by<F: RangeFilter>(alloc: Global, merge: Merge, state: &State) -> Resul
     }
 }
 
-/// The state after the merge that comes behind a put or a del.
+/// The state after the merge that comes after a put or a del.
 pub fn tend<F: RangeFilter>(
     alloc: Global,
     merge: Merge,
@@ -203,7 +206,7 @@ pub fn tend<F: RangeFilter>(
     }
 }
 
-// A reply before those to what comes behind it.
+// A reply before those to what comes after it.
 fn with_first(reply: Reply, later: Vec<Reply>) -> Result<Vec<Reply>, AllocError>
     ensures { IfOk result (λ list. map says list.items ≡ says reply ∷ map says later.items) }
 {
@@ -212,7 +215,7 @@ fn with_first(reply: Reply, later: Vec<Reply>) -> Result<Vec<Reply>, AllocError>
     Ok(list)
 }
 
-/// The replies to some requests, a merge behind each put and del, and the state that they leave. Nothing comes behind
+/// The replies to some requests, a merge after each put and del, and the state that they leave. Nothing comes after
 /// `quit`.
 pub fn play_by<F: RangeFilter>(
     alloc: Global,
@@ -240,7 +243,7 @@ pub fn play_by<F: RangeFilter>(
     }
 }
 
-/// The same with a whole merge behind each put and del.
+/// The same with a whole merge after each put and del.
 pub fn play<F: RangeFilter>(
     alloc: Global,
     state: &State,
@@ -251,7 +254,7 @@ pub fn play<F: RangeFilter>(
     play_by::<F>(alloc, Merge::Whole, state, requests)
 }
 
-/// The same with one merge slice of so many blocks behind each put and del.
+/// The same with one merge slice of a given number of blocks after each put and del.
 pub fn play_in_slices<F: RangeFilter>(
     alloc: Global,
     blocks: u64,

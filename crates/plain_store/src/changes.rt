@@ -1,24 +1,29 @@
 //! What a put, a flush and a compaction make of a state.
-ghost use Rattle.std.specs.Prelude.{◌≡◌, ◌+◌, map, vec_items, IfOk};
+ghost use Rattle.std.specs.Prelude.{◌≡◌, ◌+◌, [], ◌∷◌, map, IfOk};
 ghost use Rattle.key_base.specs.Limits.{max_level};
-ghost use Rattle.entry_model.specs.Entries.{need, gap, body, filled};
+ghost use Rattle.entry_model.specs.Entries.{need, body};
 ghost use Rattle.table_model.specs.Tables.{filter_bytes_of};
 ghost use Rattle.state_model.specs.Changes as model;
+ghost use Rattle.state_model.specs.Logs.{filled_by, gap_after, need_of, recorded};
 ghost use Rattle.state_model.specs.State.{without_job};
+ghost use Rattle.range_model.specs.Sources.{Clears};
 ghost use Rattle.state_model.specs.Taken.{taken};
-ghost use Rattle.state_model.specs.Merges.{outputs_for, placed};
+ghost use Rattle.state_model.specs.Merges.{placed};
+ghost use Rattle.plain_store.specs.ChangeKinds.{change_of};
 ghost use Rattle.plain_store.specs.Refusals.{as_replied};
 
+use crate::change::Change;
 use crate::job::copied_job;
-use crate::lists::{push_entries, push_tables};
-use crate::outputs::{live_entries, outputs_of};
+use crate::lists::push_tables;
+use crate::outputs::{cut_for, live_entries};
 use crate::placing::{placed, taken, taken_without};
+use crate::ranges::DeletedRange;
+use crate::source::{Source, alone, source_of};
 use crate::state::State;
 use crate::table::Table;
-use crate::view::newest_entries;
-use entry_list::{Entry, body_length, copied, push_copy};
+use entry_list::{Entry, body_length};
 use filter_api::RangeFilter;
-use key_base::{LOG_BYTES, MAX_LEVEL, MAX_LOGGED_VALUE_BYTES, MAX_TABLES};
+use key_base::{LOG_BYTES, MAX_KEY_BYTES, MAX_LEVEL, MAX_LOGGED_VALUE_BYTES, MAX_TABLES};
 use std::alloc::{AllocError, Global};
 
 /// Why a change is refused.
@@ -55,24 +60,36 @@ fn with_tables(
     }))
 }
 
-/// The memory entries become one table, the first of level 0, in the first gap that holds it, and the log is empty. Where
-/// there are none nothing changes.
+/// What is in memory becomes one table, the first of level 0, in the first gap that holds it, and the log is empty. Where
+/// there are no entries nothing changes.
 pub fn flushed<F: RangeFilter>(
     alloc: Global,
     state: &State,
 ) -> Result<Result<State, Refusal>, AllocError>
     ensures { IfOk result (λ changed. as_replied changed ≡ model.flushed (filter_bytes_of F.spelling F.built_cutoff) state.now) }
 {
-    let memory = state.memory(alloc)?;
-    if memory.is_empty() {
+    let memory = state.in_memory(alloc)?;
+    if memory.entries.is_empty() {
         let same = state.copy(alloc)?;
         return Ok(Ok(same));
     }
     if state.tables.len() >= MAX_TABLES {
         return Ok(Err(Refusal::ManyTables));
     }
+    flushed_source::<F>(alloc, state, memory)
+}
+
+// A source becomes the first table, in the state of the next epoch.
+fn flushed_source<F: RangeFilter>(
+    alloc: Global,
+    state: &State,
+    source: Source,
+) -> Result<Result<State, Refusal>, AllocError>
+    ensures { IfOk result (λ changed. as_replied changed ≡ model.flush_placed state.now
+        (placed (filter_bytes_of F.spelling F.built_cutoff) state.now.settings state.now.pages (taken state.now) 0 (source ∷ []))) }
+{
     let mut outputs = Vec::new(alloc);
-    outputs.push(memory)?;
+    outputs.push(source)?;
     let taken = taken(alloc, state)?;
     match placed::<F>(alloc, state, taken.as_slice(), 0, outputs.as_slice())? {
         Ok(made) => {
@@ -87,45 +104,55 @@ pub fn flushed<F: RangeFilter>(
     }
 }
 
-// The state with an entry more in its log.
-fn logged(state: State, entry: &Entry) -> Result<State, AllocError>
-    ensures { IfOk result (λ s. s ≡ model.logged state entry.now) }
+// The state with a change more in its log.
+fn logged(alloc: Global, state: State, change: &Change) -> Result<State, AllocError>
+    ensures { IfOk result (λ s. s ≡ model.logged state (change_of change.now)) }
 {
     let mut state = state;
-    push_copy(entry, &mut state.log)?;
+    let copy = change.copy(alloc)?;
+    state.log.push(copy)?;
     Ok(state)
 }
 
-/// The entry is logged, after a flush exactly where its record does not fit the log area. One whose value is longer than any
-/// that the log takes is flushed, over the memory entries.
+/// The change is logged, after a flush exactly where its record does not fit the log area. An entry whose value is longer
+/// than any that the log takes is flushed, over what is in memory.
 pub fn written<F: RangeFilter>(
     alloc: Global,
     state: &State,
-    entry: &Entry,
+    change: &Change,
 ) -> Result<Result<State, Refusal>, AllocError>
-    ensures { IfOk result (λ changed. as_replied changed ≡ model.written (filter_bytes_of F.spelling F.built_cutoff) state.now entry.now) }
+    ensures { IfOk result (λ changed. as_replied changed ≡ model.written (filter_bytes_of F.spelling F.built_cutoff) state.now (change_of change.now)) }
 {
-    if is_long(entry) {
+    if is_long(change) {
         let same = state.copy(alloc)?;
-        let with_it = logged(same, entry)?;
+        let with_it = logged(alloc, same, change)?;
         return flushed::<F>(alloc, &with_it);
     }
-    if record_length(entry)?.checked_add(1).ok_or(AllocError)? <= log_gap(state)? {
+    if record_length(change)?.checked_add(1).ok_or(AllocError)? <= log_gap(state)? {
         let same = state.copy(alloc)?;
-        let state = logged(same, entry)?;
+        let state = logged(alloc, same, change)?;
         return Ok(Ok(state));
     }
     match flushed::<F>(alloc, state)? {
         Ok(state) => {
-            let state = logged(state, entry)?;
+            let state = logged(alloc, state, change)?;
             Ok(Ok(state))
         }
         Err(refusal) => Ok(Err(refusal)),
     }
 }
 
-// Whether the value is longer than any that the log takes.
-fn is_long(entry: &Entry) -> bool
+// Whether its record would have a longer value than any that the log takes.
+fn is_long(change: &Change) -> bool
+    ensures { result ≡ model.is_long (recorded (change_of change.now)) }
+{
+    match change {
+        Change::Sets(entry) => has_long_value(entry),
+        Change::Clears(range) => range.hi().len() > MAX_LOGGED_VALUE_BYTES,
+    }
+}
+
+fn has_long_value(entry: &Entry) -> bool
     ensures { result ≡ model.is_long entry.now }
 {
     match entry.value() {
@@ -134,8 +161,26 @@ fn is_long(entry: &Entry) -> bool
     }
 }
 
-// The bytes of an entry's record, with its gate. It gives up where a key or a value is out of range.
-fn record_length(entry: &Entry) -> Result<u64, AllocError>
+// The bytes of a change's record, with its gate. It gives up where a key or a value is out of range.
+fn record_length(change: &Change) -> Result<u64, AllocError>
+    ensures { IfOk result (λ n. n + 1 ≡ need_of (change_of change.now)) }
+{
+    match change {
+        Change::Sets(entry) => entry_length(entry),
+        Change::Clears(range) => range_length(range),
+    }
+}
+
+fn range_length(range: &DeletedRange) -> Result<u64, AllocError>
+    ensures { IfOk result (λ n. n + 1 ≡ need_of (Clears range.now)) }
+{
+    if range.lo().len() > MAX_KEY_BYTES || range.hi().len() > MAX_KEY_BYTES {
+        return Err(AllocError);
+    }
+    Ok(1 + body_length(range.lo().len(), range.hi().len()) as u64)
+}
+
+fn entry_length(entry: &Entry) -> Result<u64, AllocError>
     ensures { IfOk result (λ n. n + 1 ≡ need entry.now) }
 {
     if !entry.is_sound() {
@@ -150,12 +195,12 @@ fn record_length(entry: &Entry) -> Result<u64, AllocError>
 
 // The bytes that the log's records take.
 #[tactic(auto, unfolding(entry_model::specs::Entries::filled))]
-fn log_bytes(entries: &[Entry]) -> Result<u64, AllocError>
-    ensures { IfOk result (λ n. n ≡ filled entries.now) }
+fn log_bytes(changes: &[Change]) -> Result<u64, AllocError>
+    ensures { IfOk result (λ n. n ≡ filled_by (map change_of changes.now)) }
 {
     let mut bytes = 0u64;
-    for entry in entries {
-        bytes = bytes.checked_add(record_length(entry)?).ok_or(AllocError)?;
+    for change in changes {
+        bytes = bytes.checked_add(record_length(change)?).ok_or(AllocError)?;
     }
     Ok(bytes)
 }
@@ -163,13 +208,13 @@ fn log_bytes(entries: &[Entry]) -> Result<u64, AllocError>
 // The bytes that are left in the log area.
 #[tactic(auto, unfolding(entry_model::specs::Entries::gap))]
 fn log_gap(state: &State) -> Result<u64, AllocError>
-    ensures { IfOk result (λ n. n ≡ gap state.now.log) }
+    ensures { IfOk result (λ n. n ≡ gap_after state.now.log) }
 {
     let filled = log_bytes(state.log.as_slice())?;
     Ok((LOG_BYTES as u64).saturating_sub(filled))
 }
 
-/// The live pairs alone stand in tables of the last level, and the log is empty. An empty store stays as it is.
+/// The live pairs alone are in tables of the last level, and the log is empty. An empty store stays as it is.
 #[tactic(auto, unfolding(key_base::specs::Limits::last_epoch))]
 pub fn compacted<F: RangeFilter>(
     alloc: Global,
@@ -177,8 +222,8 @@ pub fn compacted<F: RangeFilter>(
 ) -> Result<Result<State, Refusal>, AllocError>
     ensures { IfOk result (λ changed. as_replied changed ≡ model.compacted (filter_bytes_of F.spelling F.built_cutoff) state.now) }
 {
-    let entries = state.entries(alloc)?;
-    if entries.is_empty() {
+    let changes = state.changes(alloc)?;
+    if changes.is_empty() {
         let same = state.copy(alloc)?;
         return Ok(Ok(same));
     }
@@ -189,16 +234,17 @@ pub fn compacted<F: RangeFilter>(
 }
 
 // The live pairs of a store that is not empty, cut into outputs.
-fn live_outputs(alloc: Global, state: &State) -> Result<Vec<Vec<Entry>>, AllocError>
-    ensures { IfOk result (λ outputs. map vec_items outputs.items ≡ outputs_for state.now.tables (model.live_entries state.now)) }
+fn live_outputs(alloc: Global, state: &State) -> Result<Vec<Source>, AllocError>
+    ensures { IfOk result (λ outputs. outputs.items ≡ model.compacted_outputs state.now) }
 {
-    let entries = state.entries(alloc)?;
-    let newest = newest_entries(alloc, entries.as_slice())?;
-    let live = live_entries(alloc, newest.as_slice())?;
-    outputs_of(alloc, state.tables.len().saturating_sub(1), live.as_slice())
+    let changes = state.changes(alloc)?;
+    let newest = source_of(alloc, changes.as_slice())?;
+    let live = live_entries(alloc, newest.entries.as_slice())?;
+    let source = alone(alloc, live);
+    cut_for(alloc, state.tables.as_slice(), &source)
 }
 
-// They are placed, and stand alone in the state of the next epoch.
+// They are placed, and are alone in the state of the next epoch.
 fn compacted_at<F: RangeFilter>(
     alloc: Global,
     state: &State,
@@ -206,7 +252,7 @@ fn compacted_at<F: RangeFilter>(
 ) -> Result<Result<State, Refusal>, AllocError>
     requires { epoch ≡ state.now.epoch + 1 }
     ensures { IfOk result (λ changed. as_replied changed ≡ model.compact_placed state.now
-        (placed (filter_bytes_of F.spelling F.built_cutoff) state.now.settings state.now.pages (taken (without_job state.now)) max_level (outputs_for state.now.tables (model.live_entries state.now)))) }
+        (placed (filter_bytes_of F.spelling F.built_cutoff) state.now.settings state.now.pages (taken (without_job state.now)) max_level (model.compacted_outputs state.now))) }
 {
     let outputs = live_outputs(alloc, state)?;
     let taken = taken_without(alloc, state)?;

@@ -43,7 +43,7 @@ fn room_at(pages: u64, extents: &[Extent], page: u64) -> u64
     }
 }
 
-// The pages at which a gap may begin: the first one that a table may have, and those behind extents.
+// The pages at which a gap may begin: the first one that a table may have, and those after extents.
 fn gap_starts(alloc: Global, extents: &[Extent]) -> Result<Vec<u64>, AllocError>
     ensures { IfOk result (λ starts. starts.items ≡ model.gap_starts extents.now) }
 {
@@ -75,7 +75,7 @@ fn least(numbers: &[u64]) -> Option<u64>
     Some(rest.iter().fold(*first, |least, n| least.min(*n)))
 }
 
-/// The first page of the first gap that holds so many pages.
+/// The first page of the first gap that holds a given number of pages.
 pub fn first_gap(
     alloc: Global,
     pages: u64,

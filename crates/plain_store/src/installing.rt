@@ -1,5 +1,5 @@
 //! A merge that is done whole, or merge slice by merge slice.
-ghost use Rattle.std.specs.Prelude.{◌≡◌, ◌==◌, ◌++◌, not, if◌then◌else◌, fold, map, drop, length, vec_items, Some, IfOk, OnOk};
+ghost use Rattle.std.specs.Prelude.{◌≡◌, ◌==◌, ◌++◌, not, if◌then◌else◌, fold, drop, length, Some, IfOk, OnOk};
 ghost use Rattle.std.specs.List.{list_any};
 ghost use Rattle.key_base.specs.Limits.{last_epoch};
 ghost use Rattle.table_model.specs.Tables.{filter_bytes_of};
@@ -8,15 +8,16 @@ ghost use Rattle.state_model.specs.State.{without_job};
 ghost use Rattle.state_model.specs.Merges.{choose};
 ghost use Rattle.state_model.specs.Tends.{goes_before, inserted, without, outstanding, installed};
 
+use crate::change::push_changes;
 use crate::job::{Job, started};
 use crate::keys::is_before;
 use crate::lists::{push_table, push_tables};
 use crate::merges::choose;
 use crate::outputs::outputs_of_job;
 use crate::placing::{placed, taken_with};
+use crate::source::Source;
 use crate::state::State;
 use crate::table::Table;
-use entry_list::{Entry, copied};
 use filter_api::RangeFilter;
 use std::alloc::{AllocError, Global};
 
@@ -113,7 +114,7 @@ fn job_of(alloc: Global, state: &State) -> Result<Option<Job>, AllocError>
     }
 }
 
-// The outputs stand in the place of the inputs, unless the epoch is the last one: then the job is dropped.
+// The outputs take the place of the inputs, unless the epoch is the last one: then the job is dropped.
 #[tactic(auto, unfolding(key_base::specs::Limits::last_epoch))]
 fn installed(alloc: Global, state: &State, job: &Job) -> Result<State, AllocError>
     ensures { IfOk result (λ s. s ≡ (if state.now.epoch == last_epoch then without_job state.now else installed state.now job.now)) }
@@ -123,7 +124,8 @@ fn installed(alloc: Global, state: &State, job: &Job) -> Result<State, AllocErro
     };
     let left = without(alloc, job.inputs.as_slice(), state.tables.as_slice())?;
     let tables = with_all(alloc, left, job.written.as_slice())?;
-    let log = copied(alloc, state.log.as_slice())?;
+    let mut log = Vec::new(alloc);
+    push_changes(state.log.as_slice(), &mut log)?;
     Ok(State {
         settings: state.settings,
         pages: state.pages,
@@ -146,8 +148,8 @@ fn finished(job: Job, made: &[Table]) -> Result<Job, AllocError>
 
 // The outputs of these that are not written yet.
 #[tactic(auto, using(crate::proofs::Whole::nothing_left, crate::proofs::Whole::left_from))]
-fn left_of<'a>(job: &Job, outputs: &'a [Vec<Entry>]) -> &'a [Vec<Entry>]
-    ensures { map vec_items result.now ≡ drop (length job.now.written) (map vec_items outputs.now) }
+fn left_of<'a>(job: &Job, outputs: &'a [Source]) -> &'a [Source]
+    ensures { result.now ≡ drop (length job.now.written) outputs.now }
 {
     if job.written.len() > outputs.len() {
         return &outputs[..0];
@@ -182,13 +184,8 @@ pub fn merged<F: RangeFilter>(alloc: Global, state: &State) -> Result<State, All
 }
 
 // The job goes on; where none of these outputs is left of it, it is installed, or dropped.
-fn went_on_by(
-    alloc: Global,
-    state: &State,
-    job: Job,
-    left: &[Vec<Entry>],
-) -> Result<State, AllocError>
-    ensures { IfOk result (λ s. s ≡ model.went_on_by state.now job (map vec_items left.now)) }
+fn went_on_by(alloc: Global, state: &State, job: Job, left: &[Source]) -> Result<State, AllocError>
+    ensures { IfOk result (λ s. s ≡ model.went_on_by state.now job left.now) }
 {
     if left.is_empty() {
         return installed(alloc, state, &job);
@@ -213,10 +210,10 @@ fn with_next<F: RangeFilter>(
     alloc: Global,
     state: &State,
     job: Job,
-    left: &[Vec<Entry>],
+    left: &[Source],
 ) -> Result<State, AllocError>
-    requires { map vec_items left.now ≡ outstanding state.now.tables job }
-    ensures { IfOk result (λ s. s ≡ model.with_next (filter_bytes_of F.spelling F.built_cutoff) state.now job (map vec_items left.now)) }
+    requires { left.now ≡ outstanding state.now.tables job }
+    ensures { IfOk result (λ s. s ≡ model.with_next (filter_bytes_of F.spelling F.built_cutoff) state.now job left.now) }
 {
     if left.is_empty() {
         return installed(alloc, state, &job);
@@ -231,7 +228,7 @@ fn with_next<F: RangeFilter>(
     }
 }
 
-// A merge slice of a job: it reads so many blocks, or where none is left writes the next output; and installs where then nothing is
+// A merge slice of a job: it reads a given number of blocks, or where none is left writes the next output; and installs where then nothing is
 // left.
 fn sliced_by<F: RangeFilter>(
     alloc: Global,
@@ -251,7 +248,7 @@ fn sliced_by<F: RangeFilter>(
     with_next::<F>(alloc, state, job, left)
 }
 
-/// The state after one merge slice of so many blocks, where a job runs or is to be chosen.
+/// The state after one merge slice of a given number of blocks, where a job runs or is to be chosen.
 pub fn sliced<F: RangeFilter>(
     alloc: Global,
     blocks: u64,

@@ -1,9 +1,11 @@
 //! Lists of tables.
-ghost use Rattle.std.specs.Prelude.{◌≡◌, [], ◌∷◌, ◌++◌, filter, map, reverse, flat_map, IfOk, OnOk};
+ghost use Rattle.std.specs.Prelude.{◌≡◌, [], ◌∷◌, ◌++◌, filter, map, IfOk, OnOk};
 ghost use Rattle.state_model.specs.Taken.{extent_of};
 ghost use Rattle.state_model.specs.Merges.{on_level};
 ghost use Rattle.state_model.specs.View.{oldest_first};
+ghost use Rattle.plain_store.specs.ChangeKinds.{change_of};
 
+use crate::change::{Change, push_source};
 use crate::gaps::Extent;
 use crate::table::Table;
 use entry_list::{Entry, push_copy};
@@ -41,7 +43,7 @@ pub(crate) fn on_level(alloc: Global, level: u8, tables: &[Table]) -> Result<Vec
     Ok(list)
 }
 
-/// Where tables stand.
+/// Where tables are.
 pub(crate) fn extents(alloc: Global, tables: &[Table]) -> Result<Vec<Extent>, AllocError>
     ensures { IfOk result (λ list. list.items ≡ map extent_of tables.now) }
 {
@@ -62,14 +64,14 @@ pub(crate) fn push_entries(entries: &[Entry], list: &mut Vec<Entry>) -> Result<(
     Ok(())
 }
 
-/// Copies of the entries of tables, the oldest first.
-pub(crate) fn oldest_first(alloc: Global, tables: &[Table]) -> Result<Vec<Entry>, AllocError>
-    ensures { IfOk result (λ list. list.items ≡ oldest_first tables.now) }
+/// The changes of tables, the oldest first.
+pub(crate) fn oldest_first(alloc: Global, tables: &[Table]) -> Result<Vec<Change>, AllocError>
+    ensures { IfOk result (λ list. map change_of list.items ≡ oldest_first tables.now) }
 {
-    let mut list = Vec::new(alloc);
-    for i in 0..tables.len() {
-        let table = &tables[tables.len() - 1 - i];
-        push_entries(table.entries.as_slice(), &mut list)?;
-    }
+    let Some((table, older)) = tables.split_first() else {
+        return Ok(Vec::new(alloc));
+    };
+    let mut list = oldest_first(alloc, older)?;
+    push_source(table.entries.as_slice(), table.ranges.as_slice(), &mut list)?;
     Ok(list)
 }

@@ -2,9 +2,11 @@
 ghost use Rattle.std.specs.Prelude.{◌≡◌, ◌+◌, ◌≤◌, [], ◌∷◌, ◌++◌, filter, take, length, sum_by, IfOk, OnOk};
 ghost use Rattle.std.specs.List.{list_any};
 ghost use Rattle.std.specs.Option.{option_map};
+ghost use Rattle.range_model.specs.Reach.{lies_below};
+ghost use Rattle.table_model.specs.Tables.{as_source};
 ghost use Rattle.state_model.specs.Merges as model;
 
-use crate::keys::is_before;
+use crate::keys::{greater, is_before, lesser};
 use crate::lists::{on_level, push_table, push_tables};
 use crate::state::State;
 use crate::table::Table;
@@ -24,18 +26,6 @@ impl Model for Plan {
     ghost Value = { model.Plan };
 
     ghost view = { λ p. record { inputs = p.inputs.items; output = p.output } };
-}
-
-fn lesser<'a>(x: &'a [u8], y: &'a [u8]) -> &'a [u8]
-    ensures { result.now ≡ model.lesser x.now y.now }
-{
-    if is_before(y, x) { y } else { x }
-}
-
-fn greater<'a>(x: &'a [u8], y: &'a [u8]) -> &'a [u8]
-    ensures { result.now ≡ model.greater x.now y.now }
-{
-    if is_before(x, y) { y } else { x }
 }
 
 // The least key of all tables.
@@ -66,19 +56,44 @@ fn greatest_of(tables: &[Table]) -> &[u8]
     greatest
 }
 
-// Whether the table's keys reach into those from `lo` to `hi`.
-fn overlaps(lo: &[u8], hi: &[u8], table: &Table) -> bool
-    ensures { result ≡ model.overlaps lo.now hi.now table.now }
+// The greatest end of their ranges, no bytes where there is none.
+fn reach_of(tables: &[Table]) -> &[u8]
+    ensures { result.now ≡ model.reach_of tables.now }
 {
-    !is_before(table.greatest_key(), lo) && !is_before(hi, table.least_key())
+    let mut end: &[u8] = &[];
+    for table in tables {
+        end = greater(end, table.reach());
+    }
+    end
 }
 
-// Appends copies of the tables that reach into the keys from `lo` to `hi`.
-fn push_met(lo: &[u8], hi: &[u8], tables: &[Table], list: &mut Vec<Table>) -> Result<(), AllocError>
-    ensures { OnOk result (list.new.items ≡ list.old.items ++ filter (model.overlaps lo.now hi.now) tables.now) }
+// Whether all that a table speaks of comes before the key.
+fn lies_below(table: &Table, key: &[u8]) -> bool
+    ensures { result ≡ lies_below (as_source table.now) key.now }
+{
+    is_before(table.greatest_key(), key) && !is_before(key, table.reach())
+}
+
+// Whether all that some tables speak of comes before the key.
+fn all_below(tables: &[Table], key: &[u8]) -> bool
+    ensures { result ≡ model.all_below tables.now key.now }
+{
+    is_before(greatest_of(tables), key) && !is_before(key, reach_of(tables))
+}
+
+// Whether the table reaches into what some tables speak of.
+fn meets(tables: &[Table], table: &Table) -> bool
+    ensures { result ≡ model.meets tables.now table.now }
+{
+    !lies_below(table, least_of(tables)) && !all_below(tables, table.least_key())
+}
+
+// Appends copies of those of some tables that reach into what the chosen ones speak of.
+fn push_met(chosen: &[Table], tables: &[Table], list: &mut Vec<Table>) -> Result<(), AllocError>
+    ensures { OnOk result (list.new.items ≡ list.old.items ++ filter (model.meets chosen.now) tables.now) }
 {
     for table in tables {
-        if overlaps(lo, hi, table) {
+        if meets(chosen, table) {
             push_table(table, list)?;
         }
     }
@@ -92,12 +107,7 @@ fn plan_of(alloc: Global, state: &State, tables: &[Table], output: u8) -> Result
     let below = on_level(alloc, output, state.tables.as_slice())?;
     let mut inputs = Vec::new(alloc);
     push_tables(tables, &mut inputs)?;
-    push_met(
-        least_of(tables),
-        greatest_of(tables),
-        below.as_slice(),
-        &mut inputs,
-    )?;
+    push_met(tables, below.as_slice(), &mut inputs)?;
     Ok(Plan { inputs, output })
 }
 

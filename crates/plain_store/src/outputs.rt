@@ -1,17 +1,20 @@
 //! What a merge makes of its inputs.
 ghost use Rattle.std.specs.Prelude.{◌≡◌, [], ◌∷◌, ◌++◌, filter, map, length, vec_items, take, drop, nat_lt, ◌≤◌, IfOk, OnOk};
 ghost use Rattle.std.specs.List.{list_any};
+ghost use Rattle.range_model.specs.Outputs.{with_ranges};
 ghost use Rattle.state_model.specs.Merges as model;
 ghost use Rattle.state_model.specs.Sound.{plan_of_job};
 
 use crate::job::Job;
 use crate::lists::{oldest_first, push_entries};
 use crate::pages::data_pages;
+use crate::ranges::{DeletedRange, copied_ranges, ranges_below, ranges_from};
+use crate::source::{Source, alone, source_of};
 use crate::state::State;
 use crate::table::Table;
-use crate::view::newest_entries;
-use entry_list::{Entry, push_copy};
+use entry_list::{Entry, copied, push_copy};
 use key_base::MERGE_DATA_PAGES;
+use plain_blocks::first_key;
 use std::alloc::{AllocError, Global};
 
 // Whether no table lies deeper than the level.
@@ -51,23 +54,24 @@ pub(crate) fn live_entries(alloc: Global, entries: &[Entry]) -> Result<Vec<Entry
     Ok(list)
 }
 
-// The entries that a merge keeps: without tombstones where nothing older can lie below them.
-fn lasting(alloc: Global, is_last: bool, entries: Vec<Entry>) -> Result<Vec<Entry>, AllocError>
-    ensures { IfOk result (λ list. list.items ≡ model.lasting is_last entries.items) }
+// What a merge keeps: no tombstones and no ranges where nothing older can lie below them.
+fn lasting_of(alloc: Global, is_last: bool, source: Source) -> Result<Source, AllocError>
+    ensures { IfOk result (λ s. s ≡ model.lasting_of is_last source) }
 {
     if is_last {
-        live_entries(alloc, entries.as_slice())
+        let entries = live_entries(alloc, source.entries.as_slice())?;
+        Ok(alone(alloc, entries))
     } else {
-        Ok(entries)
+        Ok(source)
     }
 }
 
-// The newest entry of each key of some tables, the newest table first.
-fn newest_of(alloc: Global, tables: &[Table]) -> Result<Vec<Entry>, AllocError>
-    ensures { IfOk result (λ list. list.items ≡ model.newest_of tables.now) }
+// What some tables make, the newest table first.
+fn merged_of(alloc: Global, tables: &[Table]) -> Result<Source, AllocError>
+    ensures { IfOk result (λ s. s ≡ model.merged_of tables.now) }
 {
-    let entries = oldest_first(alloc, tables)?;
-    newest_entries(alloc, entries.as_slice())
+    let changes = oldest_first(alloc, tables)?;
+    source_of(alloc, changes.as_slice())
 }
 
 // How many of the entries make the first output: those up to the one with which it is full, or all.
@@ -84,8 +88,8 @@ fn first_output(alloc: Global, entries: &[Entry]) -> Result<usize, AllocError>
     Ok(entries.len())
 }
 
-/// The outputs: each but the last is closed as soon as it is full, and at most so many come beside one. None is empty.
-pub(crate) fn outputs_of(
+// The outputs: each but the last is closed as soon as it is full, and at most that many come beside one. None is empty.
+fn outputs_of(
     alloc: Global,
     beside: usize,
     entries: &[Entry],
@@ -124,19 +128,69 @@ fn push_output(entries: &[Entry], outputs: &mut Vec<Vec<Entry>>) -> Result<(), A
     Ok(())
 }
 
+// An output before some others.
+fn with_first(output: Source, later: Vec<Source>) -> Result<Vec<Source>, AllocError>
+    ensures { IfOk result (λ list. list.items ≡ output ∷ later.items) }
+{
+    let mut list = later;
+    list.insert(0, output)?;
+    Ok(list)
+}
+
+// The outputs as sources: each has the ranges up to the first key of the next one.
+fn with_ranges(
+    alloc: Global,
+    outputs: &[Vec<Entry>],
+    ranges: &[DeletedRange],
+) -> Result<Vec<Source>, AllocError>
+    ensures { IfOk result (λ list. list.items ≡ with_ranges (map vec_items outputs.now) ranges.now) }
+{
+    let Some((output, more)) = outputs.split_first() else {
+        return Ok(Vec::new(alloc));
+    };
+    let entries = copied(alloc, output.as_slice())?;
+    let Some((next, _)) = more.split_first() else {
+        let ranges = copied_ranges(alloc, ranges)?;
+        return with_first(Source { entries, ranges }, Vec::new(alloc));
+    };
+    let at = first_key(next.as_slice());
+    let below = ranges_below(alloc, ranges, at)?;
+    let rest = ranges_from(alloc, ranges, at)?;
+    let later = with_ranges(alloc, more, rest.as_slice())?;
+    with_first(
+        Source {
+            entries,
+            ranges: below,
+        },
+        later,
+    )
+}
+
+/// The entries of a source, cut into outputs, each with its part of the ranges.
+pub(crate) fn cut_for(
+    alloc: Global,
+    inputs: &[Table],
+    source: &Source,
+) -> Result<Vec<Source>, AllocError>
+    ensures { IfOk result (λ outputs. outputs.items ≡ model.cut_for inputs.now source.now) }
+{
+    let outputs = outputs_of(
+        alloc,
+        inputs.len().saturating_sub(1),
+        source.entries.as_slice(),
+    )?;
+    with_ranges(alloc, outputs.as_slice(), source.ranges.as_slice())
+}
+
 /// The outputs of a job.
 pub(crate) fn outputs_of_job(
     alloc: Global,
     state: &State,
     job: &Job,
-) -> Result<Vec<Vec<Entry>>, AllocError>
-    ensures { IfOk result (λ outputs. map vec_items outputs.items ≡ model.planned state.now.tables (plan_of_job job.now)) }
+) -> Result<Vec<Source>, AllocError>
+    ensures { IfOk result (λ outputs. outputs.items ≡ model.planned state.now.tables (plan_of_job job.now)) }
 {
-    let newest = newest_of(alloc, job.inputs.as_slice())?;
-    let entries = lasting(alloc, is_deepest(state, job.output), newest)?;
-    outputs_of(
-        alloc,
-        job.inputs.len().saturating_sub(1),
-        entries.as_slice(),
-    )
+    let merged = merged_of(alloc, job.inputs.as_slice())?;
+    let source = lasting_of(alloc, is_deepest(state, job.output), merged)?;
+    cut_for(alloc, job.inputs.as_slice(), &source)
 }

@@ -10,10 +10,10 @@ ghost use Rattle.state_model.specs.Merges as model;
 use crate::gaps::{Extent, first_gap, largest_gap};
 use crate::job::Job;
 use crate::lists::extents;
-use crate::pages::{table_of, table_pages};
+use crate::pages::{source_pages, table_from};
+use crate::source::Source;
 use crate::state::State;
 use crate::table::Table;
-use entry_list::Entry;
 use filter_api::RangeFilter;
 use std::alloc::{AllocError, Global};
 use std::marker::Model;
@@ -91,20 +91,20 @@ pub(crate) fn placed<F: RangeFilter>(
     state: &State,
     taken: &[Extent],
     level: u8,
-    outputs: &[Vec<Entry>],
+    outputs: &[Source],
 ) -> Result<Result<Vec<Table>, NoRoom>, AllocError>
     ensures { IfOk result (λ made. result_map_both vec_items (λ r. r) made
-        ≡ model.placed (filter_bytes_of F.spelling F.built_cutoff) state.now.settings state.now.pages taken.now level (map vec_items outputs.now)) }
+        ≡ model.placed (filter_bytes_of F.spelling F.built_cutoff) state.now.settings state.now.pages taken.now level outputs.now) }
 {
     let Some((output, more)) = outputs.split_first() else {
         return Ok(Ok(Vec::new(alloc)));
     };
-    let need = table_pages::<F>(alloc, state.settings, output.as_slice())?;
+    let need = source_pages::<F>(alloc, state.settings, output)?;
     let Some(page) = first_gap(alloc, state.pages, taken, need)? else {
         let gap = largest_gap(alloc, state.pages, taken)?;
         return Ok(Err(NoRoom { need, gap }));
     };
-    let table = table_of::<F>(alloc, state.settings, level, page, output.as_slice())?;
+    let table = table_from::<F>(alloc, state.settings, level, page, output)?;
     let taken = with_extent(alloc, (page, need), taken)?;
     match placed::<F>(alloc, state, taken.as_slice(), level, more)? {
         Ok(later) => {

@@ -12,7 +12,7 @@ pub enum Reply {
         key: Vec<u8>,
         value: Vec<u8>,
     },
-    /// The pairs of a range, with their number behind them.
+    /// The pairs of a range, with their number after them.
     Pairs(PlainMap),
     Counted(u64),
     About(u64),

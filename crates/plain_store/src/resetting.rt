@@ -28,7 +28,7 @@ fn with_numbers(
     Ok(Ok(next))
 }
 
-/// New tables get these settings; those that stand keep theirs. The epoch is raised, and no job runs.
+/// New tables get these settings; those that are there keep theirs. The epoch is raised, and no job runs.
 pub fn with_settings(
     alloc: Global,
     state: &State,
@@ -39,7 +39,7 @@ pub fn with_settings(
     with_numbers(alloc, state, settings, state.pages)
 }
 
-/// The device has so many pages. The epoch is raised, and no job runs.
+/// The device has a given number of pages. The epoch is raised, and no job runs.
 pub fn with_pages(
     alloc: Global,
     state: &State,

@@ -3,37 +3,38 @@ ghost use Rattle.std.specs.Prelude.{◌≡◌, ◌≤◌, IfOk};
 ghost use Rattle.state_model.specs.State.{new_state, without_job};
 ghost use Rattle.state_model.specs.Tends.{with_job};
 
+use crate::change::{Change, push_changes};
 use crate::job::{Job, copied_job};
 use crate::lists::push_tables;
 use crate::table::Table;
-use entry_list::{Entry, copied};
 use filter_api::Settings;
 use std::alloc::{AllocError, Global};
 use std::marker::Model;
 
-/// What a store holds: its log's entries in the order of writing, and its tables, those of level 0 first and the newest
+/// What a store holds: its log's changes in the order of writing, and its tables, those of level 0 first and the newest
 /// of them first, then the deeper levels, each by rising keys, and the merge that runs.
 #[derive(Drop)]
 pub struct State {
     pub settings: Settings,
     pub pages: u64,
     pub epoch: u64,
-    pub log: Vec<Entry>,
+    pub log: Vec<Change>,
     pub tables: Vec<Table>,
     pub job: Option<Job>,
 }
 
 impl Model for State {
-    ghost use Rattle.std.specs.Prelude.{[]};
+    ghost use Rattle.std.specs.Prelude.{[], map};
     ghost use Rattle.state_model.specs.State as model;
+    ghost use Rattle.plain_store.specs.ChangeKinds.{change_of};
 
     ghost Value = { model.State };
 
-    ghost view = { λ s. record { settings = s.settings; pages = s.pages; epoch = s.epoch; log = s.log.items; tables = s.tables.items; job = s.job; kept = [] } };
+    ghost view = { λ s. record { settings = s.settings; pages = s.pages; epoch = s.epoch; log = map change_of s.log.items; tables = s.tables.items; job = s.job; kept = [] } };
 }
 
 impl State {
-    /// A store as it is made, on a device of so many pages: epoch 1, and nothing in it.
+    /// A store as it is made, on a device of a given number of pages: epoch 1, and nothing in it.
     pub fn new(alloc: Global, settings: Settings, pages: u64) -> State
         ensures { result ≡ new_state settings pages }
     {
@@ -51,7 +52,8 @@ impl State {
     pub fn copy(&self, alloc: Global) -> Result<State, AllocError>
         ensures { IfOk result (λ s. s ≡ self.now) }
     {
-        let log = copied(alloc, self.log.as_slice())?;
+        let mut log = Vec::new(alloc);
+        push_changes(self.log.as_slice(), &mut log)?;
         let mut tables = Vec::new(alloc);
         push_tables(self.tables.as_slice(), &mut tables)?;
         let job = copied_job(alloc, &self.job)?;

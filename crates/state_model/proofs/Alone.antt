@@ -1,4 +1,4 @@
--- Behind a line that is no put and no del comes no merge slice.
+-- After a line that is no put and no del comes no merge slice.
 use Rattle.std.proofs.Common.{◌≡◌, true, false}
 use Rattle.table_model.specs.Tables.{FilterBytes}
 use Rattle.line_model.specs.Requests.{Request, Put, Del, Get, Seek, Range, Count, Estimate, Explain, Flush, Compact, Quit, Bad}

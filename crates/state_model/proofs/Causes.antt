@@ -9,10 +9,10 @@ use Rattle.entry_model.specs.Entries.{put_entry, del_entry}
 use Rattle.entry_model.specs.Newest.{lookup}
 use Rattle.state_model.specs.State.{State, without_job}
 use Rattle.table_model.specs.Tables.{FilterBytes, Table}
-use Rattle.state_model.specs.View.{memory, entries_of, state_map}
+use Rattle.state_model.specs.View.{memory, changes_of, state_map}
 use Rattle.state_model.specs.Bounds.{unless_found, searched, get_bound, seek_bound, stepped, admits_range}
-use Rattle.state_model.specs.Changes.{written, flushed, live_entries}
-use Rattle.state_model.specs.Merges.{NoRoom, placed, outputs_for}
+use Rattle.state_model.specs.Changes.{written, flushed, compacted_outputs}
+use Rattle.state_model.specs.Merges.{NoRoom, placed}
 use Rattle.state_model.specs.Taken.{taken}
 use Rattle.line_model.specs.Requests.{Request, Put, Del, Get, Seek, Range, Count, Estimate, Explain, Flush, Compact, Quit, Bad}
 use Rattle.line_model.specs.Replies.{Reply, Pairs, Device, Damaged}
@@ -21,6 +21,7 @@ use Rattle.state_model.specs.Steps.{answer, TakesMemory, Reads, Writes, Step, an
 use Rattle.state_model.specs.SoundLaws.{Ever}
 use Rattle.state_model.specs.FaultLaws.{Only, is_change, IsAnswered, OfReads, OfDevice, IsSaidOf}
 use Rattle.state_model.proofs.FaultsMet.{answer_plain, no_fault}
+use Rattle.range_model.specs.Sources.{Sets}
 
 -- ---- no cause, no fault
 
@@ -103,13 +104,13 @@ bare_get s key e =
 -- ---- where there is no cause
 
 module _ (filter_bytes : FilterBytes) (s after : State) (reply : Reply) where
-  pub put_refused : (key value : Bytes) (why : Reply) → written filter_bytes s (put_entry key value) ≡ Err why
+  pub put_refused : (key value : Bytes) (why : Reply) → written filter_bytes s (Sets (put_entry key value)) ≡ Err why
       → Step OfDevice filter_bytes s (Put key value) reply after → IsAnswered filter_bytes s (Put key value) reply after
-  put_refused key value why e = by_no_device filter_bytes s after (Put key value) reply (λ r. r) (refused_is_not (written filter_bytes s (put_entry key value)) why e)
+  put_refused key value why e = by_no_device filter_bytes s after (Put key value) reply (λ r. r) (refused_is_not (written filter_bytes s (Sets (put_entry key value))) why e)
 
-  pub del_refused : (key : Bytes) (why : Reply) → written filter_bytes s (del_entry key) ≡ Err why
+  pub del_refused : (key : Bytes) (why : Reply) → written filter_bytes s (Sets (del_entry key)) ≡ Err why
       → Step OfDevice filter_bytes s (Del key) reply after → IsAnswered filter_bytes s (Del key) reply after
-  del_refused key why e = by_no_device filter_bytes s after (Del key) reply (λ r. r) (refused_is_not (written filter_bytes s (del_entry key)) why e)
+  del_refused key why e = by_no_device filter_bytes s after (Del key) reply (λ r. r) (refused_is_not (written filter_bytes s (Sets (del_entry key))) why e)
 
   pub flush_refused : (why : Reply) → flushed filter_bytes s ≡ Err why
       → Step OfDevice filter_bytes s Flush reply after → IsAnswered filter_bytes s Flush reply after
@@ -118,7 +119,7 @@ module _ (filter_bytes : FilterBytes) (s after : State) (reply : Reply) where
   pub flush_none : memory s ≡ [] → Step Ever filter_bytes s Flush reply after → IsAnswered filter_bytes s Flush reply after
   flush_none e = by_nothing filter_bytes s after Flush reply (λ t. t e) (λ r. r) (λ w. w.0 e)
 
-  pub compaction_none : entries_of s ≡ [] → Step Ever filter_bytes s Compact reply after → IsAnswered filter_bytes s Compact reply after
+  pub compaction_none : changes_of s ≡ [] → Step Ever filter_bytes s Compact reply after → IsAnswered filter_bytes s Compact reply after
   compaction_none e = by_nothing filter_bytes s after Compact reply (λ t. t.0 e) (λ r. r.0.0 e) (λ w. w.0.0 e)
 
   pub compaction_last : s.epoch ≡ last_epoch → Step Ever filter_bytes s Compact reply after → IsAnswered filter_bytes s Compact reply after
@@ -127,7 +128,7 @@ module _ (filter_bytes : FilterBytes) (s after : State) (reply : Reply) where
   pub compaction_bare : s.tables ≡ [] → Step OfReads filter_bytes s Compact reply after → IsAnswered filter_bytes s Compact reply after
   compaction_bare e = by_no_read filter_bytes s after Compact reply (λ r. r.1 e)
 
-  pub compaction_cramped : (refusal : NoRoom) → placed filter_bytes s.settings s.pages (taken (without_job s)) 6 (take 1 (outputs_for s.tables (live_entries s))) ≡ Err refusal
+  pub compaction_cramped : (refusal : NoRoom) → placed filter_bytes s.settings s.pages (taken (without_job s)) 6 (take 1 (compacted_outputs s)) ≡ Err refusal
       → Step (Only WriteFailed) filter_bytes s Compact reply after → IsAnswered filter_bytes s Compact reply after
   compaction_cramped refusal e = by_no_write filter_bytes s after Compact reply (λ w. not_placed _ refusal e w.1)
 

@@ -1,4 +1,4 @@
--- First lines that went on, and a script behind them, are a script.
+-- First lines that went on, and a script after them, are a script.
 use Rattle.std.proofs.Common.{◌≡◌, ◌+◌, ◌++◌, ℕ, List, [], ◌∷◌, length, sym, ap, ◌∙◌, subst, arith, append_assoc, length-append}
 use Rattle.map_model.specs.SortedMap.{Bytes}
 use Rattle.state_model.specs.State.{State}
@@ -6,7 +6,7 @@ use Rattle.table_model.specs.Tables.{FilterBytes}
 use Rattle.state_model.specs.Causes.{Why}
 use Rattle.line_model.specs.Requests.{request_of}
 use Rattle.line_model.specs.Replies.{text_of}
-use Rattle.state_model.specs.Script.{Ending, Turn, Onward, AsSaid, EndsOr, Between, Script, WentOn}
+use Rattle.state_model.specs.Script.{Ending, Turn, Onward, AsSaid, EndsOr, Between, Script, AnsweredLines}
 
 -- so much was said, with a reply and what follows it
 pub said_more : (said : ℕ) (text own more : Bytes) → text ≡ own ++ more → said + length text ≡ said + length own + length more
@@ -17,7 +17,7 @@ pub none_more : (said : ℕ) (text : Bytes) → text ≡ [] → said + length te
 none_more said text none = let long : length text ≡ 0 = ap (λ (l : Bytes). length l) none in omega (arith, long)
 
 pub goes_on : (Cause : Why → Type 0) (filter_bytes : FilterBytes) (R : ℕ → State → Type 0) (said : ℕ) (s after : State) (first lines : List Bytes) (text rest : Bytes) (ending : Ending)
-    → WentOn Cause filter_bytes R said s first text after → Script Cause filter_bytes R (said + length text) after lines rest ending
+    → AnsweredLines Cause filter_bytes R said s first text after → Script Cause filter_bytes R (said + length text) after lines rest ending
     → Script Cause filter_bytes R said s (first ++ lines) (text ++ rest) ending
 goes_on Cause filter_bytes R said s after [] lines text rest ending went script =
     let here = subst (λ (n : ℕ). Script Cause filter_bytes R n after lines rest ending) (none_more said text went.0) script in

@@ -8,20 +8,20 @@ use Rattle.table_model.specs.Tables.{FilterBytes}
 use Rattle.state_model.specs.State.{State}
 use Rattle.state_model.specs.Causes.{Why}
 use Rattle.state_model.specs.Steps.{Step}
-use Rattle.state_model.specs.Script.{Ending, ToLast, Turn, Onward, Over, turn_of, AsSaid, EndsOr, Between, Script, WentOn, LastAnswered, EndsThere, Answers, answered}
+use Rattle.state_model.specs.Script.{Ending, ToLast, Turn, Onward, Over, turn_of, AsSaid, EndsOr, Between, Script, AnsweredLines, LastAnswered, ScriptEndsAt, Answers, answered}
 use Rattle.state_model.proofs.Chains.{none_more, said_more}
 
 module _ (Cause : Why → Type 0) (filter_bytes : FilterBytes) (R : ℕ → State → Type 0) where
   -- ---- lines that went on
 
-  -- lines that went on behind others that did
+  -- lines that went on after others that did
   joined : (said : ℕ) (s mid after : State) (first lines : List Bytes) (text rest : Bytes)
-      → WentOn Cause filter_bytes R said s first text mid → WentOn Cause filter_bytes R (said + length text) mid lines rest after
-      → WentOn Cause filter_bytes R said s (first ++ lines) (text ++ rest) after
+      → AnsweredLines Cause filter_bytes R said s first text mid → AnsweredLines Cause filter_bytes R (said + length text) mid lines rest after
+      → AnsweredLines Cause filter_bytes R said s (first ++ lines) (text ++ rest) after
   joined said s mid after [] lines text rest went later =
-      let here = subst (λ (n : ℕ). WentOn Cause filter_bytes R n mid lines rest after) (none_more said text went.0) later in
-      let same = subst (λ (t : State). WentOn Cause filter_bytes R said t lines rest after) went.1 here in
-      subst (λ (t : Bytes). WentOn Cause filter_bytes R said s lines (t ++ rest) after) (sym went.0) same
+      let here = subst (λ (n : ℕ). AnsweredLines Cause filter_bytes R n mid lines rest after) (none_more said text went.0) later in
+      let same = subst (λ (t : State). AnsweredLines Cause filter_bytes R said t lines rest after) went.1 here in
+      subst (λ (t : Bytes). AnsweredLines Cause filter_bytes R said s lines (t ++ rest) after) (sym went.0) same
   joined said s mid after (line ∷ first) lines text rest (reply, behind, new, next, whole, step, onward, holds, between, went) later =
       let so_far = said + length (text_of reply) in (
         reply,
@@ -34,16 +34,16 @@ module _ (Cause : Why → Type 0) (filter_bytes : FilterBytes) (R : ℕ → Stat
         holds,
         between,
         joined so_far next mid after first lines behind rest went
-            (subst (λ (n : ℕ). WentOn Cause filter_bytes R n mid lines rest after) (said_more said text (text_of reply) behind whole) later),
+            (subst (λ (n : ℕ). AnsweredLines Cause filter_bytes R n mid lines rest after) (said_more said text (text_of reply) behind whole) later),
       )
 
   pub answers_went_on : (said : ℕ) (s after next : State) (first : List Bytes) (last text : Bytes) (reply : Reply)
       → LastAnswered Cause filter_bytes R said s first last text reply after → turn_of reply ≡ Onward
-      → Between Cause filter_bytes (request_of last) after Onward next → WentOn Cause filter_bytes R said s (first ++ (last ∷ [])) text next
+      → Between Cause filter_bytes (request_of last) after Onward next → AnsweredLines Cause filter_bytes R said s (first ++ (last ∷ [])) text next
   answers_went_on said s after next first last text reply d onward between =
       let at_end = said_more said text d.early (text_of reply) d.whole in
       let holds = subst (λ (n : ℕ). R n after) at_end (subst (λ (t : Turn). AsSaid t (R (said + length text) after)) onward d.holds) in
-      subst (λ (t : Bytes). WentOn Cause filter_bytes R said s (first ++ (last ∷ [])) t next) (sym d.whole)
+      subst (λ (t : Bytes). AnsweredLines Cause filter_bytes R said s (first ++ (last ∷ [])) t next) (sym d.whole)
       (joined said s d.before next first (last ∷ []) d.early (text_of reply) d.went
       (reply, [], after, next, sym (append-nil (text_of reply)), d.step, onward, holds, between, (refl, refl)))
 
@@ -52,12 +52,12 @@ module _ (Cause : Why → Type 0) (filter_bytes : FilterBytes) (R : ℕ → Stat
   abbrev Ended : ℕ → State → List Bytes → Bytes → Ending → Type 0
   Ended said s lines text ending =
       (first : List Bytes) × (last : Bytes) × (later : List Bytes) × (reply : Reply) × (after : State) × (lines ≡ first ++ (last ∷ later))
-      × LastAnswered Cause filter_bytes R said s first last text reply after × EndsThere Cause filter_bytes last reply after ending
+      × LastAnswered Cause filter_bytes R said s first last text reply after × ScriptEndsAt Cause filter_bytes last reply after ending
 
   -- at the first line
   ended_here : (said : ℕ) (s new : State) (line : Bytes) (more : List Bytes) (text rest : Bytes) (ending : Ending) (reply : Reply)
       → text ≡ text_of reply ++ rest → rest ≡ [] → Step Cause filter_bytes s (request_of line) reply new
-      → AsSaid (turn_of reply) (R (said + length (text_of reply)) new) → EndsThere Cause filter_bytes line reply new ending
+      → AsSaid (turn_of reply) (R (said + length (text_of reply)) new) → ScriptEndsAt Cause filter_bytes line reply new ending
       → Ended said s (line ∷ more) text ending
   ended_here said s new line more text rest ending reply whole none step holds ends =
       let all : text ≡ text_of reply = whole ∙ ap (λ (t : Bytes). text_of reply ++ t) none ∙ append-nil (text_of reply) in (

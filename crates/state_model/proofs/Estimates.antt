@@ -1,24 +1,26 @@
 -- An estimate is not below the true count.
-use Rattle.std.proofs.Common.{◌≡◌, ℕ, ◌≤◌, ◌+◌, List, [], ◌∷◌, ◌++◌, refl, sym, ap, ◌∙◌, true, false, cond, arith}
-use Rattle.std.specs.Option.{option_or}
+use Rattle.std.proofs.Common.{◌≡◌, ℕ, ◌≤◌, ◌+◌, List, [], ◌∷◌, map, refl, sym, ap, ◌∙◌, true, false, cond, not, arith}
 use Rattle.std.specs.Prelude.{Option, Some, None, bytes_eq, fold, count_by, sum_by}
 use Rattle.std.specs.List.{AllByRecursion}
-use Rattle.std.proofs.lemmas.List.Sums.{sum_by-cons, sum_by-append}
+use Rattle.std.proofs.lemmas.List.Sums.{fold-append, sum_by-cons}
 use Rattle.byte_fields.specs.Spelling.{IsBytes}
 use Rattle.map_model.specs.SortedMap.{Bytes, Map, put, del, in_place}
-use Rattle.entry_model.specs.Entries.{Entry, newest, live, change_by, changed, map_of, keys_of}
+use Rattle.entry_model.specs.Entries.{Entry, change_by, keys_of}
 use Rattle.map_model.proofs.Maps.{by_order}
 use Rattle.map_model.specs.Slices.{is_before, is_between, count}
 use Rattle.map_model.proofs.Between.{counted, count_crossed}
 use Rattle.filter_model.specs.Answers.{tally, true_count}
 use Rattle.filter_model.proofs.Tallies.{tally_is_near}
+use Rattle.range_model.specs.Clearing.{clear, lies_within}
+use Rattle.range_model.specs.Ranges.{DeletedRange}
+use Rattle.range_model.specs.Sources.{Sets, Clears, Source, changes_in}
+use Rattle.range_model.specs.ChangedMaps.{map_changed_by}
+use Rattle.range_model.proofs.ChangedMaps.{changes_rise, source_keeps_map}
 use Rattle.state_model.specs.State.{State}
-use Rattle.table_model.specs.Tables.{FilterBytes, Table}
-use Rattle.state_model.specs.View.{memory, oldest_first, state_map}
+use Rattle.table_model.specs.Tables.{FilterBytes, Table, as_source}
+use Rattle.state_model.specs.View.{in_memory, memory, oldest_first, state_map}
 use Rattle.state_model.specs.Bounds.{table_leaves, estimate}
 use Rattle.state_model.specs.Sound.{IsSound, IsSoundTable}
-use Rattle.state_model.proofs.SameMaps.{same_map}
-use Rattle.state_model.proofs.Sayings.{newest-append, newest_again, lists_of, backwards, oldest_first-backwards}
 use Rattle.state_model.proofs.SoundKeys.{key_list}
 
 -- how many of a map's pairs, and of some entries, lie from lo to hi
@@ -59,9 +61,26 @@ change_adds : (lo hi : Bytes) (map : Map) (key : Bytes) (value : Option Bytes) �
 change_adds lo hi map key (Some value) = put_adds lo hi map key value
 change_adds lo hi map key None = omega (arith, del_adds lo hi map key)
 
-all_add : (lo hi : Bytes) (map : Map) (entries : List Entry) → pairs_in lo hi (fold changed map entries) ≤ pairs_in lo hi map + entries_in lo hi entries
-all_add lo hi map [] = omega arith
-all_add lo hi map (e ∷ more) = omega (arith, all_add lo hi (changed map e) more, change_adds lo hi map e.key e.value, entry_more lo hi e more)
+all_add : (lo hi : Bytes) (pairs : Map) (entries : List Entry) → pairs_in lo hi (fold map_changed_by pairs (map Sets entries)) ≤ pairs_in lo hi pairs + entries_in lo hi entries
+all_add lo hi pairs [] = omega arith
+all_add lo hi pairs (e ∷ more) = omega (arith, all_add lo hi (map_changed_by pairs (Sets e)) more, change_adds lo hi pairs e.key e.value, entry_more lo hi e more)
+
+clear_adds : (lo hi low high : Bytes) (pairs : Map) → pairs_in lo hi (clear pairs low high) ≤ pairs_in lo hi pairs
+clear_adds lo hi low high [] = omega arith
+clear_adds lo hi low high (pair ∷ more) = elim (lies_within low high pair.0) as (λ b. pairs_in lo hi (cond (not b) (pair ∷ clear more low high) (clear more low high)) ≤ pairs_in lo hi (pair ∷ more)) [
+  | true ↦ omega (arith, pair_more lo hi pair more, clear_adds lo hi low high more)
+  | false ↦ omega (arith, pair_more lo hi pair more, pair_more lo hi pair (clear more low high), clear_adds lo hi low high more)
+]
+
+all_clear : (lo hi : Bytes) (pairs : Map) (ranges : List DeletedRange) → pairs_in lo hi (fold map_changed_by pairs (map Clears ranges)) ≤ pairs_in lo hi pairs
+all_clear lo hi pairs [] = omega arith
+all_clear lo hi pairs (range ∷ more) = omega (arith, all_clear lo hi (map_changed_by pairs (Clears range)) more, clear_adds lo hi range.lo range.hi pairs)
+
+-- a source adds no more than its entries
+source_adds : (lo hi : Bytes) (pairs : Map) (s : Source) → pairs_in lo hi (fold map_changed_by pairs (changes_in s)) ≤ pairs_in lo hi pairs + entries_in lo hi s.entries
+source_adds lo hi pairs s =
+    let parts = ap (pairs_in lo hi) (fold-append map_changed_by pairs (map Clears s.ranges) (map Sets s.entries)) in
+    omega (arith, parts, all_add lo hi (fold map_changed_by pairs (map Clears s.ranges)) s.entries, all_clear lo hi pairs s.ranges)
 
 -- ---- the entries of tables
 
@@ -69,11 +88,12 @@ tables_in : Bytes → Bytes → List Table → ℕ
 tables_in lo hi [] = 0
 tables_in lo hi (t ∷ more) = entries_in lo hi t.entries + tables_in lo hi more
 
-backwards_in : (lo hi : Bytes) (tables : List Table) → entries_in lo hi (backwards (lists_of tables)) ≡ tables_in lo hi tables
+tables_add : (lo hi : Bytes) (tables : List Table) → pairs_in lo hi (fold map_changed_by [] (oldest_first tables)) ≤ tables_in lo hi tables
 unfolding tables_in
-backwards_in lo hi [] = refl
-backwards_in lo hi (t ∷ more) =
-    omega (arith, sum_by-append (λ (x : Entry). one_in lo hi x.key) (backwards (lists_of more)) t.entries, backwards_in lo hi more)
+tables_add lo hi [] = omega arith
+tables_add lo hi (t ∷ more) =
+    let parts = ap (pairs_in lo hi) (fold-append map_changed_by [] (oldest_first more) (changes_in (as_source t))) in
+    omega (arith, parts, source_adds lo hi (fold map_changed_by [] (oldest_first more)) (as_source t), tables_add lo hi more)
 
 true_entries : (lo hi : Bytes) (entries : List Entry) → true_count (keys_of entries) lo hi ≡ entries_in lo hi entries
 true_entries lo hi [] = refl
@@ -96,19 +116,16 @@ tallies_enough lo hi (t ∷ more) low high order sound =
 
 -- ---- the estimate
 
--- the memory entries make the same map as the log
-same_as_memory : (s : State) → map_of (oldest_first s.tables ++ memory s) ≡ state_map s
-same_as_memory s = same_map (oldest_first s.tables ++ memory s) (oldest_first s.tables ++ s.log) (λ key.
-    ap live (newest-append (oldest_first s.tables) (memory s) key ∙ ap (λ (o : Option (Option Bytes)). option_or o (newest (oldest_first s.tables) key)) (newest_again s.log key)
-    ∙ sym (newest-append (oldest_first s.tables) s.log key)))
+-- what is in memory makes the same map as the log
+same_as_memory : (s : State) → fold map_changed_by (fold map_changed_by [] (oldest_first s.tables)) (changes_in (in_memory s)) ≡ state_map s
+same_as_memory s =
+    let tables = fold map_changed_by [] (oldest_first s.tables) in
+    source_keeps_map tables s.log (changes_rise [] (oldest_first s.tables) tt) ∙ sym (fold-append map_changed_by [] (oldest_first s.tables) s.log)
 
 map_few : (s : State) (lo hi : Bytes) → pairs_in lo hi (state_map s) ≤ tables_in lo hi s.tables + entries_in lo hi (memory s)
 map_few s lo hi =
-    let all = all_add lo hi [] (oldest_first s.tables ++ memory s) in
     let made = ap (pairs_in lo hi) (same_as_memory s) in
-    let parts = sum_by-append (λ (x : Entry). one_in lo hi x.key) (oldest_first s.tables) (memory s) in
-    let tables = ap (entries_in lo hi) (oldest_first-backwards s.tables) ∙ backwards_in lo hi s.tables in
-    omega (arith, all, made, parts, tables)
+    omega (arith, made, source_adds lo hi (fold map_changed_by [] (oldest_first s.tables)) (in_memory s), tables_add lo hi s.tables)
 
 pub estimate_enough : (filter_bytes : FilterBytes) (s : State) (lo hi : Bytes) → IsSound filter_bytes s → IsBytes lo → IsBytes hi → count (state_map s) lo (Some hi) ≤ estimate s lo hi
 estimate_enough filter_bytes s lo hi sound low high =

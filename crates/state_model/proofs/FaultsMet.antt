@@ -4,14 +4,14 @@ use Rattle.std.specs.Option.{option_or}
 use Rattle.std.specs.Prelude.{Option, Some, None, Result, Ok, Err, nat_le, nat_lt, ◌==◌, ◌||◌, ◌+◌}
 use Rattle.key_base.specs.Limits.{last_epoch, max_tables}
 use Rattle.map_model.specs.SortedMap.{Bytes, get}
-use Rattle.entry_model.specs.Entries.{Entry, need, gap, put_entry, del_entry}
+use Rattle.entry_model.specs.Entries.{Entry, put_entry, del_entry}
 use Rattle.map_model.specs.Slices.{seek}
 use Rattle.state_model.specs.State.{State, without_job}
 use Rattle.table_model.specs.Tables.{FilterBytes, Table}
-use Rattle.state_model.specs.View.{memory, entries_of, state_map}
+use Rattle.state_model.specs.View.{memory, changes_of, state_map, in_memory}
 use Rattle.state_model.specs.Taken.{taken}
-use Rattle.state_model.specs.Merges.{NoRoom, placed, outputs_for}
-use Rattle.state_model.specs.Changes.{is_long, with_tables, flush_placed, flushed_with, flushed, logged, logged_then, written, compact_placed, compacted_with, compacted, live_entries}
+use Rattle.state_model.specs.Merges.{NoRoom, placed}
+use Rattle.state_model.specs.Changes.{is_long, with_tables, flush_placed, flushed_with, flushed, logged, logged_then, written, compact_placed, compacted_with, compacted, compacted_outputs}
 use Rattle.line_model.specs.Limits.{key_limit, value_limit, bound_limit, limit_of}
 use Rattle.line_model.specs.Requests.{Request, Put, Del, Get, Seek, Range, Count, Estimate, Explain, Flush, Compact, Quit, Bad}
 use Rattle.line_model.specs.Replies.{Reply, LongKey, LongValue, ManyTables, LastEpoch, Pairs, Memory, Device, Damaged, got, found}
@@ -19,10 +19,12 @@ use Rattle.state_model.specs.Steps.{Answer, answer, answer_within, done_or_refus
 use Rattle.state_model.specs.Tends.{Tended, Refused, Tend, idle, works, installs, last_epoch_reached, no_room, no_memory as none_for_it, read_failed as not_read, damage_met as was_damaged, write_failed as not_written}
 use Rattle.state_model.specs.SoundLaws.{Ever}
 use Rattle.state_model.specs.FaultLaws.{KeepsDevice}
+use Rattle.range_model.specs.Sources.{Change, Sets, Source}
+use Rattle.state_model.specs.Logs.{recorded, need_of, gap_after}
 
 -- ---- an answer tells of no fault
 
--- whether a reply tells of want of memory, of a fault of the device, or of damage
+-- whether a reply tells of lack of memory, of a fault of the device, or of damage
 abbrev pub is_fault : Reply → Bool
 is_fault Memory = true
 is_fault Device = true
@@ -80,45 +82,45 @@ flush_placed_plain : (s : State) (done : Result (List Table) NoRoom) → PlainCh
 flush_placed_plain s (Ok made) = with_tables_plain s (made ++ s.tables)
 flush_placed_plain s (Err refusal) = refl
 
-flushed_with_plain : (filter_bytes : FilterBytes) (s : State) (entries : List Entry) → PlainChange s (flushed_with filter_bytes s entries)
-flushed_with_plain filter_bytes s [] = (refl, refl)
-flushed_with_plain filter_bytes s (entry ∷ more) =
-    let done = placed filter_bytes s.settings s.pages (taken s) 0 ((entry ∷ more) ∷ []) in
+flushed_with_plain : (filter_bytes : FilterBytes) (s : State) (source : Source) (entries : List Entry) → PlainChange s (flushed_with filter_bytes s source entries)
+flushed_with_plain filter_bytes s source [] = (refl, refl)
+flushed_with_plain filter_bytes s source (entry ∷ more) =
+    let done = placed filter_bytes s.settings s.pages (taken s) 0 (source ∷ []) in
     elim (nat_le max_tables (length s.tables)) as (λ t. PlainChange s (cond t (Err ManyTables) (flush_placed s done))) [ true ↦ refl | false ↦ flush_placed_plain s done ]
 
 flushed_plain : (filter_bytes : FilterBytes) (s : State) → PlainChange s (flushed filter_bytes s)
-flushed_plain filter_bytes s = flushed_with_plain filter_bytes s (memory s)
+flushed_plain filter_bytes s = flushed_with_plain filter_bytes s (in_memory s) (memory s)
 
-logged_then_plain : (s : State) (entry : Entry) (done : Result State Reply) → PlainChange s done → PlainChange s (logged_then entry done)
-logged_then_plain s entry (Ok t) plain = plain
-logged_then_plain s entry (Err refusal) plain = plain
+logged_then_plain : (s : State) (change : Change) (done : Result State Reply) → PlainChange s done → PlainChange s (logged_then change done)
+logged_then_plain s change (Ok t) plain = plain
+logged_then_plain s change (Err refusal) plain = plain
 
-short_plain : (filter_bytes : FilterBytes) (s : State) (entry : Entry) → PlainChange s (cond (nat_le (need entry) (gap s.log)) (Ok (logged s entry)) (logged_then entry (flushed filter_bytes s)))
-short_plain filter_bytes s entry = elim (nat_le (need entry) (gap s.log)) as (λ t. PlainChange s (cond t (Ok (logged s entry)) (logged_then entry (flushed filter_bytes s)))) [
+short_plain : (filter_bytes : FilterBytes) (s : State) (change : Change) → PlainChange s (cond (nat_le (need_of change) (gap_after s.log)) (Ok (logged s change)) (logged_then change (flushed filter_bytes s)))
+short_plain filter_bytes s change = elim (nat_le (need_of change) (gap_after s.log)) as (λ t. PlainChange s (cond t (Ok (logged s change)) (logged_then change (flushed filter_bytes s)))) [
   | true ↦ (refl, refl)
-  | false ↦ logged_then_plain s entry (flushed filter_bytes s) (flushed_plain filter_bytes s)
+  | false ↦ logged_then_plain s change (flushed filter_bytes s) (flushed_plain filter_bytes s)
 ]
 
 -- what keeps the device of a state with an entry in its log keeps that of the state
-over_plain : (s : State) (entry : Entry) (done : Result State Reply) → PlainChange (logged s entry) done → PlainChange s done
-over_plain s entry (Ok t) plain = plain
-over_plain s entry (Err refusal) plain = plain
+over_plain : (s : State) (change : Change) (done : Result State Reply) → PlainChange (logged s change) done → PlainChange s done
+over_plain s change (Ok t) plain = plain
+over_plain s change (Err refusal) plain = plain
 
-written_plain : (filter_bytes : FilterBytes) (s : State) (entry : Entry) → PlainChange s (written filter_bytes s entry)
-written_plain filter_bytes s entry = elim (is_long entry) as (λ long. PlainChange s
-    (cond long (flushed filter_bytes (logged s entry)) (cond (nat_le (need entry) (gap s.log)) (Ok (logged s entry)) (logged_then entry (flushed filter_bytes s))))) [
-      | true ↦ over_plain s entry (flushed filter_bytes (logged s entry)) (flushed_plain filter_bytes (logged s entry))
-      | false ↦ short_plain filter_bytes s entry
+written_plain : (filter_bytes : FilterBytes) (s : State) (change : Change) → PlainChange s (written filter_bytes s change)
+written_plain filter_bytes s change = elim (is_long (recorded change)) as (λ long. PlainChange s
+    (cond long (flushed filter_bytes (logged s change)) (cond (nat_le (need_of change) (gap_after s.log)) (Ok (logged s change)) (logged_then change (flushed filter_bytes s))))) [
+      | true ↦ over_plain s change (flushed filter_bytes (logged s change)) (flushed_plain filter_bytes (logged s change))
+      | false ↦ short_plain filter_bytes s change
     ]
 
 compact_placed_plain : (s : State) (done : Result (List Table) NoRoom) → PlainChange s (compact_placed s done)
 compact_placed_plain s (Ok made) = (refl, refl)
 compact_placed_plain s (Err refusal) = refl
 
-compacted_plain : (filter_bytes : FilterBytes) (s : State) (entries : List Entry) → PlainChange s (compacted_with filter_bytes s entries)
+compacted_plain : (filter_bytes : FilterBytes) (s : State) (changes : List Change) → PlainChange s (compacted_with filter_bytes s changes)
 compacted_plain filter_bytes s [] = (refl, refl)
-compacted_plain filter_bytes s (entry ∷ more) =
-    let done = placed filter_bytes s.settings s.pages (taken (without_job s)) 6 (outputs_for s.tables (live_entries s)) in
+compacted_plain filter_bytes s (change ∷ more) =
+    let done = placed filter_bytes s.settings s.pages (taken (without_job s)) 6 (compacted_outputs s) in
     elim (s.epoch == last_epoch) as (λ t. PlainChange s (cond t (Err LastEpoch) (compact_placed s done))) [ true ↦ refl | false ↦ compact_placed_plain s done ]
 
 changed_plain : (s old : State) (done : Result State Reply) → KeepsDevice s old → PlainChange s done → PlainAnswer s (done_or_refused old done)
@@ -134,8 +136,8 @@ found_plain (Some pair) = refl
 found_plain None = refl
 
 within_plain : (filter_bytes : FilterBytes) (s : State) (request : Request) → PlainAnswer s (answer_within filter_bytes s request)
-within_plain filter_bytes s (Put key value) = changed_plain s s (written filter_bytes s (put_entry key value)) (refl, refl) (written_plain filter_bytes s (put_entry key value))
-within_plain filter_bytes s (Del key) = changed_plain s s (written filter_bytes s (del_entry key)) (refl, refl) (written_plain filter_bytes s (del_entry key))
+within_plain filter_bytes s (Put key value) = changed_plain s s (written filter_bytes s (Sets (put_entry key value))) (refl, refl) (written_plain filter_bytes s (Sets (put_entry key value)))
+within_plain filter_bytes s (Del key) = changed_plain s s (written filter_bytes s (Sets (del_entry key))) (refl, refl) (written_plain filter_bytes s (Sets (del_entry key)))
 within_plain filter_bytes s (Get key) = (got_plain (get (state_map s) key), (refl, refl))
 within_plain filter_bytes s (Seek lo hi) = (found_plain (seek (state_map s) lo hi), (refl, refl))
 within_plain filter_bytes s (Range lo hi n) = (refl, (refl, refl))
@@ -143,7 +145,7 @@ within_plain filter_bytes s (Count lo hi) = (refl, (refl, refl))
 within_plain filter_bytes s (Estimate lo hi) = (refl, (refl, refl))
 within_plain filter_bytes s (Explain key) = (refl, (refl, refl))
 within_plain filter_bytes s Flush = changed_plain s s (flushed filter_bytes s) (refl, refl) (flushed_plain filter_bytes s)
-within_plain filter_bytes s Compact = changed_plain s (without_job s) (compacted filter_bytes s) (refl, refl) (compacted_plain filter_bytes s (entries_of s))
+within_plain filter_bytes s Compact = changed_plain s (without_job s) (compacted filter_bytes s) (refl, refl) (compacted_plain filter_bytes s (changes_of s))
 within_plain filter_bytes s Quit = (refl, (refl, refl))
 within_plain filter_bytes s (Bad code) = (refl, (refl, refl))
 

@@ -8,23 +8,24 @@ use Rattle.std.proofs.lemmas.List.Sums.{sum_by-cons}
 use Rattle.extent_model.proofs.Lists.{Pairs, pairs_of}
 use Rattle.key_base.specs.Limits.{last_epoch}
 use Rattle.map_model.specs.SortedMap.{Bytes}
-use Rattle.entry_model.specs.Entries.{Entry}
 use Rattle.entry_model.specs.Newest.{lookup}
 use Rattle.map_model.specs.Slices.{is_before}
 use Rattle.state_model.specs.State.{State, without_job}
 use Rattle.table_model.specs.Tables.{FilterBytes, Table}
-use Rattle.state_model.specs.View.{memory, entries_of}
+use Rattle.state_model.specs.View.{memory, changes_of}
 use Rattle.state_model.specs.Taken.{taken}
-use Rattle.state_model.specs.Merges.{NoRoom, placed, outputs_for, least_key, greatest_key}
-use Rattle.state_model.specs.Changes.{compact_placed, compacted_with, compacted, live_entries}
+use Rattle.state_model.specs.Merges.{NoRoom, placed, least_key, greatest_key}
+use Rattle.state_model.specs.Changes.{compact_placed, compacted_with, compacted, compacted_outputs}
 use Rattle.line_model.specs.Replies.{Reply, LastEpoch}
 use Rattle.state_model.specs.Bounds.{admits, encloses, is_searched, unless_found, searched, get_bound, admitted}
 use Rattle.state_model.specs.Sound.{IsSound, StandsBefore}
 use Rattle.state_model.proofs.Levels.{AllAt}
+use Rattle.state_model.proofs.Disjoint.{below_greatest}
 use Rattle.state_model.proofs.Inserted.{upto_of, upto_before}
 use Rattle.state_model.proofs.Steps.{IfPlaced, placed_at}
 use Rattle.state_model.proofs.EmptyStores.{without_entries}
 use Rattle.state_model.proofs.SoundCompaction.{compacted_sound}
+use Rattle.range_model.specs.Sources.{Change}
 
 unless_le : (found : Option (Option Bytes)) (n : ℕ) → unless_found found n ≤ n
 unless_le (Some value) n = omega arith
@@ -64,7 +65,7 @@ not_on : (b : Bool) → not b ≡ true → b ≡ false
 not_on true e = absurd cc
 not_on false e = refl
 
--- where a table encloses the key, those of its level that come behind it do not
+-- where a table encloses the key, those of its level that come after it do not
 later_off : (level : ℕ) (key : Bytes) (t : Table) (more : List Table) → 1 ≤ level → t.level ≡ level → AllAt level more → is_before (greatest_key t) key ≡ false
     → AllByRecursion (StandsBefore t) more → AllByRecursion (λ (u : Table). is_searched key u ≡ false) more
 later_off level key t [] some at all upto order = tt
@@ -74,7 +75,7 @@ later_off level key t (u ∷ more) some at all upto order = (off order.0, later_
     off (inl less) = absurd (omega (arith, at, all.0, less))
     off (inr (same, inl zero_level)) = absurd (omega (arith, at, zero_level, some))
     off (inr (same, inr before)) =
-        let first = ap is_lt (upto_before key (greatest_key t) (least_key u) (upto_of key (greatest_key t) upto) before) in
+        let first = ap is_lt (upto_before key (greatest_key t) (least_key u) (upto_of key (greatest_key t) upto) (below_greatest t (least_key u) before)) in
         ap (λ (b : Bool). admits key u && (not b && not (is_before (greatest_key u) key))) first ∙ and_off (admits key u)
 
 searched_one : (level : ℕ) (key : Bytes) (tables : List Table) → 1 ≤ level → AllAt level tables → Pairs StandsBefore tables → searched key tables ≤ 1
@@ -92,7 +93,7 @@ pub get_one : (filter_bytes : FilterBytes) (s : State) (level : ℕ) (key : Byte
 get_one filter_bytes s level key sound some all =
     omega (arith, unless_le (lookup (memory s) key) (searched key s.tables), searched_one level key s.tables some all (pairs_of StandsBefore s.tables sound.order))
 
--- ---- behind a compaction
+-- ---- after a compaction
 
 abbrev IfDeep : Result State Reply → Type 0
 IfDeep (Ok t) = AllAt 6 t.tables
@@ -102,10 +103,10 @@ placed_deep : (s : State) (done : Result (List Table) NoRoom) → IfPlaced (AllA
 placed_deep s (Ok made) all = all
 placed_deep s (Err refusal) all = tt
 
-compacted_deep : (filter_bytes : FilterBytes) (s : State) (entries : List Entry) → IsSound filter_bytes s → entries_of s ≡ entries → IfDeep (compacted_with filter_bytes s entries)
+compacted_deep : (filter_bytes : FilterBytes) (s : State) (changes : List Change) → IsSound filter_bytes s → changes_of s ≡ changes → IfDeep (compacted_with filter_bytes s changes)
 compacted_deep filter_bytes s [] sound e = subst (AllAt 6) (sym (without_entries filter_bytes s sound e)) tt
-compacted_deep filter_bytes s (entry ∷ more) sound e =
-    let outputs = outputs_for s.tables (live_entries s) in
+compacted_deep filter_bytes s (change ∷ more) sound e =
+    let outputs = compacted_outputs s in
     let done = placed filter_bytes s.settings s.pages (taken (without_job s)) 6 outputs in
     elim (s.epoch == last_epoch) as (λ b. IfDeep (cond b (Err LastEpoch) (compact_placed s done))) [
       | true ↦ tt
@@ -114,4 +115,4 @@ compacted_deep filter_bytes s (entry ∷ more) sound e =
 
 pub get_compacted : (filter_bytes : FilterBytes) (s after : State) (key : Bytes) → IsSound filter_bytes s → compacted filter_bytes s ≡ Ok after → get_bound after key ≤ 1
 get_compacted filter_bytes s after key sound e =
-    get_one filter_bytes after 6 key (compacted_sound filter_bytes s after sound e) (omega arith) (subst IfDeep e (compacted_deep filter_bytes s (entries_of s) sound refl))
+    get_one filter_bytes after 6 key (compacted_sound filter_bytes s after sound e) (omega arith) (subst IfDeep e (compacted_deep filter_bytes s (changes_of s) sound refl))

@@ -1,34 +1,32 @@
 -- A job that is installed keeps the map.
 use Rattle.std.proofs.Common.{◌≡◌, inl, inr, ℕ, ◌≤◌, ◌<◌, ◌+◌, List, [], ◌∷◌, ◌++◌, length, refl, sym, ap, ◌∙◌, subst, Bool, true, false, cond, arith, map}
 use Rattle.std.specs.Option.{option_or}
-use Rattle.std.specs.Prelude.{Option, Some, None, bytes_eq, nat_le, nat_lt, not, ◌==◌, ◌||◌, ◌-◌, filter, fold, take, drop}
+use Rattle.std.specs.Prelude.{Option, Some, None, nat_le, nat_lt, not, ◌==◌, ◌||◌, filter, fold, take, drop}
 use Rattle.std.specs.List.{AllByRecursion, list_any}
 use Rattle.std.proofs.lemmas.List.{append_assoc, append-nil, take-append-drop}
 use Rattle.std.proofs.lemmas.List.Elements.{filter-append}
-use Rattle.std.proofs.lemmas.Slice.Eq.{bytes_eq-Decides}
 use Rattle.block_model.proofs.Bounds.{weaker}
 use Rattle.map_model.specs.SortedMap.{Bytes}
-use Rattle.entry_model.specs.Entries.{Entry, newest, live}
-use Rattle.entry_model.specs.Newest.{KeysRise, lookup}
-use Rattle.entry_model.proofs.Newest.{none_above}
-use Rattle.block_model.specs.Order.{is_any}
+use Rattle.entry_model.specs.Entries.{live}
+use Rattle.range_model.specs.Sources.{IsSource, Source, first_said, last_said}
+use Rattle.range_model.specs.Laws.{LieApart}
+use Rattle.range_model.proofs.Sound.{said_both}
 use Rattle.state_model.specs.State.{State, Job, written_by}
-use Rattle.table_model.specs.Tables.{FilterBytes, Table}
-use Rattle.state_model.specs.View.{first_found, oldest_first, state_map}
-use Rattle.state_model.specs.Merges.{Plan, plan_of, on_level, overlaps, least_of, greatest_of, is_over, first_over, choose, is_deepest, lasting, newest_of, planned, has_value}
+use Rattle.table_model.specs.Tables.{FilterBytes, Table, as_source}
+use Rattle.state_model.specs.View.{sources_of, oldest_first, state_map}
+use Rattle.state_model.specs.Merges.{Plan, plan_of, on_level, meets, is_over, first_over, choose, is_deepest, merged_of, planned}
 use Rattle.state_model.specs.Tends.{without, inserted, goes_before, outstanding, installed}
 use Rattle.state_model.specs.Taken.{extent_of, taken}
 use Rattle.extent_model.specs.Extents.{AreApart, IsOnDevice}
 use Rattle.state_model.specs.Sound.{IsSound, IsSoundTable, StandsBefore, AreMade, IsJob, plan_of_job}
-use Rattle.state_model.proofs.Sayings.{AllRise, lists_of, lookup-append, newest-append, or_none, rises_filter, rises_parts, newest_entries_rise, rises_follow}
+use Rattle.state_model.proofs.Sayings.{or_none}
 use Rattle.state_model.proofs.SameMaps.{same_map}
-use Rattle.state_model.proofs.Views.{newest_of_tables}
-use Rattle.state_model.proofs.Outputs.{joined, outputs_joined, parts_rise, lookup_joined}
-use Rattle.state_model.proofs.Merged.{merge_says, tombstones_last, planned_say, inputs_say}
-use Rattle.state_model.proofs.Levels.{says, says-append, EitherNone, AtMostOne, AllAt, Levels, upto, deeper, fold_says, none_behind}
+use Rattle.state_model.proofs.Views.{said_of_tables}
+use Rattle.state_model.proofs.Merged.{inputs_say, lasting_none, merge_apart, merge_says, merge_sound, planned_say, tombstones_last}
+use Rattle.state_model.proofs.Levels.{told, says-append, EitherNone, AtMostOne, AllAt, Levels, upto, deeper, fold_says, says}
 use Rattle.extent_model.proofs.Lists.{Pairs, pairs_of, all_kept, all_pass}
 use Rattle.state_model.proofs.Parts.{above, keep_all, keep_none, pairs_kept, pairs_front, levels_of, parted, dropped}
-use Rattle.state_model.proofs.Disjoint.{Rise, hull_apart, one_of_level}
+use Rattle.state_model.proofs.Disjoint.{Rise, hull_apart, one_of_level, rise_of_sources, rising_order, sources_rise}
 use Rattle.state_model.proofs.Taken.{Apart, Cross, all_parts, all_join, cross_of, pairs_back, cross_flip, cross_parts, cross_join, cross_filter, stays, goes, parts_stay, part_says}
 
 abbrev Says : Type 0
@@ -74,7 +72,7 @@ pub record Chosen (plan : Plan) (all : List Table) (key : Bytes) : Type 0 where
   pub level : ℕ
   pub tables : List Table
   pub output : plan.output ≡ level + 1
-  pub inputs : plan.inputs ≡ tables ++ filter (overlaps (least_of tables) (greatest_of tables)) (on_level (level + 1) all)
+  pub inputs : plan.inputs ≡ tables ++ filter (meets tables) (on_level (level + 1) all)
   pub shape : Shape (on_level level all) tables key
 
 data IsPlan (all : List Table) (plan : Plan) : Type 0 where
@@ -96,14 +94,14 @@ choose_is all plan e = elim (nat_le 4 (length (on_level 0 all))) as (λ b. cond 
 
 first_apart : (tables : List Table) (key : Bytes) → AtMostOne key tables → EitherNone (says (take 1 tables) key) (says (drop 1 tables) key)
 first_apart [] key one = inl refl
-first_apart (t ∷ more) key one = subst (λ (o : Says). EitherNone o (says more key)) (sym (or_none (lookup t.entries key))) one.0
+first_apart (t ∷ more) key one = subst (λ (o : Says). EitherNone o (says more key)) (sym (or_none (told t key))) one.0
 
 pub on_level_at : (level : ℕ) (tables : List Table) → AllAt level (on_level level tables)
 on_level_at level tables = weaker (λ (t : Table). (t.level == level) ≡ true) (λ (t : Table). t.level ≡ level) (λ t e. grind arith) (on_level level tables) (all_pass (λ (t : Table). t.level == level) tables)
 
 one_on : (level : ℕ) (tables : List Table) (key : Bytes) → 1 ≤ level → Rise tables → Pairs StandsBefore tables → AtMostOne key (on_level level tables)
 one_on level tables key some rise order = one_of_level level (on_level level tables) key some (on_level_at level tables)
-    (all_kept (λ (t : Table). KeysRise t.entries) (λ (t : Table). t.level == level) tables rise)
+    (all_kept (λ (t : Table). IsSource (as_source t)) (λ (t : Table). t.level == level) tables rise)
     (pairs_kept StandsBefore (λ (t : Table). t.level == level) tables order)
 
 pub chosen : (all : List Table) (few : ℕ) (plan : Plan) (key : Bytes) → few ≤ length (on_level 0 all) → choose (drop few all) ≡ Some plan → Rise all → Pairs StandsBefore all → Chosen plan all key
@@ -116,7 +114,7 @@ chosen all few plan key within e rise order =
             level = 0;
             tables = tables;
             output = ap (λ (p : Plan). p.output) is;
-            inputs = ap (λ (p : Plan). p.inputs) is ∙ ap (λ (l : List Table). tables ++ filter (overlaps (least_of tables) (greatest_of tables)) l) (same.1 1 (omega arith));
+            inputs = ap (λ (p : Plan). p.inputs) is ∙ ap (λ (l : List Table). tables ++ filter (meets tables) l) (same.1 1 (omega arith));
             shape = record {
               front = take few (on_level 0 all);
               back = [];
@@ -132,8 +130,8 @@ chosen all few plan key within e rise order =
             tables = tables;
             output = ap (λ (p : Plan). p.output) is;
             inputs = ap (λ (p : Plan). p.inputs) is
-                ∙ ap (λ (l : List Table). l ++ filter (overlaps (least_of l) (greatest_of l)) (on_level (level + 1) (drop few all))) there
-                ∙ ap (λ (l : List Table). tables ++ filter (overlaps (least_of tables) (greatest_of tables)) l) (same.1 (level + 1) (omega arith));
+                ∙ ap (λ (l : List Table). l ++ filter (meets l) (on_level (level + 1) (drop few all))) there
+                ∙ ap (λ (l : List Table). tables ++ filter (meets tables) l) (same.1 (level + 1) (omega arith));
             shape = record {
               front = [];
               back = drop 1 (on_level level all);
@@ -194,46 +192,14 @@ says_five b p s x d key = says-append b ((p ++ s) ++ (x ++ d)) key
 
 -- ---- the outputs
 
-pub made_lists : (filter_bytes : FilterBytes) (s : State) (level : ℕ) (outputs : List (List Entry)) (made : List Table) → AreMade filter_bytes s.settings level outputs made → drop (length made) outputs ≡ [] → (lists_of made ≡ outputs) × AllAt level made
+pub made_lists : (filter_bytes : FilterBytes) (s : State) (level : ℕ) (outputs : List Source) (made : List Table) → AreMade filter_bytes s.settings level outputs made → drop (length made) outputs ≡ [] → (sources_of made ≡ outputs) × AllAt level made
 made_lists filter_bytes s level [] [] made rest = (refl, tt)
 made_lists filter_bytes s level (output ∷ outputs) [] made rest = (sym rest, tt)
 made_lists filter_bytes s level [] (t ∷ more) made rest = absurd made
 made_lists filter_bytes s level (output ∷ outputs) (t ∷ more) made rest =
     let tail = made_lists filter_bytes s level outputs more made.1 rest in
-    let head = ap (λ (u : Table). u.entries) made.0 in
+    let head : as_source t ≡ output = ap as_source made.0 in
     ((λ i. head i ∷ tail.0 i), (ap (λ (u : Table). u.level) made.0, tail.1))
-
-rising_apart : (xs ys : List Entry) (key : Bytes) → KeysRise (xs ++ ys) → EitherNone (lookup xs key) (lookup ys key)
-rising_apart [] ys key rises = inl refl
-rising_apart (x ∷ xs) ys key rises = elim (bytes_eq x.key key) as (λ t. bytes_eq x.key key ≡ t → EitherNone (cond t (Some x.value) (lookup xs key)) (lookup ys key)) [
-  | true ↦ λ e. inr (none_behind (lookup xs key) (lookup ys key) (sym (lookup-append xs ys key) ∙ subst (λ (k : Bytes). lookup (xs ++ ys) k ≡ None) ((bytes_eq-Decides x.key key).0 e) (none_above x.key (xs ++ ys) rises.0)))
-  | false ↦ λ _. rising_apart xs ys key rises.1
-] refl
-
-at_most : (made : List Table) (key : Bytes) → KeysRise (joined (lists_of made)) → AtMostOne key made
-at_most [] key rises = tt
-at_most (w ∷ more) key rises = (
-  subst (λ (o : Says). EitherNone (lookup w.entries key) o) (sym (lookup_joined (lists_of more) key)) (rising_apart w.entries (joined (lists_of more)) key rises),
-  at_most more key (rises_parts w.entries (joined (lists_of more)) rises).1,
-)
-
-pub lasting_rises : (is_last : Bool) (entries : List Entry) → KeysRise entries → KeysRise (lasting is_last entries)
-lasting_rises true entries rises = rises_filter (λ (e : Entry). has_value e.value) entries rises
-lasting_rises false entries rises = rises
-
-still_none : (test : Entry → Bool) (entries : List Entry) (key : Bytes) → lookup entries key ≡ None → lookup (filter test entries) key ≡ None
-still_none test [] key none = refl
-still_none test (e ∷ more) key none = elim (bytes_eq e.key key) as (λ t. bytes_eq e.key key ≡ t → cond t (Some e.value) (lookup more key) ≡ None → lookup (cond (test e) (e ∷ filter test more) (filter test more)) key ≡ None) [
-  | true ↦ λ _ bad. absurd cc
-  | false ↦ λ off rest. elim (test e) as (λ b. lookup (cond b (e ∷ filter test more) (filter test more)) key ≡ None) [
-    | true ↦ ap (λ (t : Bool). cond t (Some e.value) (lookup (filter test more) key)) off ∙ still_none test more key rest
-    | false ↦ still_none test more key rest
-  ]
-] refl none
-
-lasting_none : (is_last : Bool) (entries : List Entry) (key : Bytes) → lookup entries key ≡ None → lookup (lasting is_last entries) key ≡ None
-lasting_none true entries key none = still_none (λ (e : Entry). has_value e.value) entries key none
-lasting_none false entries key none = none
 
 deeper_none : (level : ℕ) (tables : List Table) → list_any (λ (t : Table). nat_lt level t.level) tables ≡ false → deeper level tables ≡ []
 deeper_none level [] e = refl
@@ -301,9 +267,9 @@ next_some a = omega arith
 -- ---- the install
 
 same_rest : (filter_bytes : FilterBytes) (s : State) (plan : Plan) (key : Bytes) (u : Says) → AllByRecursion IsSoundTable plan.inputs
-    → live (option_or u (option_or (first_found (planned s.tables plan) key) (says (deeper plan.output s.tables) key))) ≡ live (option_or u (option_or (says plan.inputs key) (says (deeper plan.output s.tables) key)))
+    → live (option_or u (option_or (first_said (planned s.tables plan) key) (says (deeper plan.output s.tables) key))) ≡ live (option_or u (option_or (says plan.inputs key) (says (deeper plan.output s.tables) key)))
 same_rest filter_bytes s plan key u sound =
-    let w = first_found (planned s.tables plan) key in
+    let w = first_said (planned s.tables plan) key in
     let d = says (deeper plan.output s.tables) key in
     elim (list_any (λ (t : Table). nat_lt plan.output t.level) s.tables) as (λ b. list_any (λ (t : Table). nat_lt plan.output t.level) s.tables ≡ b → live (option_or u (option_or w d)) ≡ live (option_or u (option_or (says plan.inputs key) d))) [
       | true ↦ λ e. ap (λ (o : Says). live (option_or u (option_or o d))) (tombstones_last s.tables plan key sound (ap not e))
@@ -319,13 +285,13 @@ install_says filter_bytes s job key sound is done =
     let plan = plan_of_job job in
     let all = s.tables in
     let order = pairs_of StandsBefore all sound.order in
-    let rise : Rise all = weaker IsSoundTable (λ (t : Table). KeysRise t.entries) (λ t st. rises_follow is_any t.entries st.entries.rising) all sound.tables in
+    let rise : Rise all = weaker IsSoundTable (λ (t : Table). IsSource (as_source t)) (λ t st. st.source) all sound.tables in
     let c = chosen s.tables is.flushes plan key is.few is.chosen rise order in
     let a = c.level in
     let i = c.tables in
     let p = c.shape.front in
     let k = c.shape.back in
-    let m = overlaps (least_of i) (greatest_of i) in
+    let m = meets i in
     let b = above a all in
     let x0 = on_level a all in
     let x = on_level (a + 1) all in
@@ -361,9 +327,9 @@ install_says filter_bytes s job key sound is done =
     (keep_none (λ (t : Table). t.level == (a + 1)) k (weaker (λ (t : Table). t.level ≡ a) (λ (t : Table). (t.level == (a + 1)) ≡ false) (λ t e. at_on a t.level e) k k_at))
     (keep_all (λ (t : Table). t.level == (a + 1)) n (weaker (λ (t : Table). t.level ≡ a + 1) (λ (t : Table). (t.level == (a + 1)) ≡ true) (λ t e. next_on a t.level e) n n_at))
     (keep_none (λ (t : Table). t.level == (a + 1)) d (weaker (λ (t : Table). a + 1 < t.level) (λ (t : Table). (t.level == (a + 1)) ≡ false) (λ t e. high_on a t.level e) d d_high)) in
-    let rise_0 = all_parts (λ (t : Table). KeysRise t.entries) p (i ++ k) (subst Rise c.shape.parts (all_kept (λ (t : Table). KeysRise t.entries) (λ (t : Table). t.level == a) all rise)) in
-    let rise_i = (all_parts (λ (t : Table). KeysRise t.entries) i k rise_0.1).0 in
-    let rise_x = all_kept (λ (t : Table). KeysRise t.entries) (λ (t : Table). t.level == (a + 1)) all rise in
+    let rise_0 = all_parts (λ (t : Table). IsSource (as_source t)) p (i ++ k) (subst Rise c.shape.parts (all_kept (λ (t : Table). IsSource (as_source t)) (λ (t : Table). t.level == a) all rise)) in
+    let rise_i = (all_parts (λ (t : Table). IsSource (as_source t)) i k rise_0.1).0 in
+    let rise_x = all_kept (λ (t : Table). IsSource (as_source t)) (λ (t : Table). t.level == (a + 1)) all rise in
     let sound_0 = all_parts IsSoundTable p (i ++ k) (subst (AllByRecursion IsSoundTable) c.shape.parts (all_kept IsSoundTable (λ (t : Table). t.level == a) all sound.tables)) in
     let sound_i = (all_parts IsSoundTable i k sound_0.1).0 in
     let sound_j = all_kept IsSoundTable m x (all_kept IsSoundTable (λ (t : Table). t.level == (a + 1)) all sound.tables) in
@@ -372,21 +338,21 @@ install_says filter_bytes s job key sound is done =
     let i_n = hull_apart i x key rise_i rise_x in
     let ins : says job.inputs key ≡ option_or (says i key) (says j key) = ap (λ (l : List Table). says l key) c.inputs ∙ says-append i j key in
     let made = made_lists filter_bytes s job.output (planned s.tables plan) job.written is.written done in
-    let w : says job.written key ≡ first_found (planned s.tables plan) key = ap (λ (l : List (List Entry)). first_found l key) made.0 in
+    let w : says job.written key ≡ first_said (planned s.tables plan) key = ap (λ (l : List Source). first_said l key) made.0 in
     let lasts = is_deepest s.tables job.output in
-    let whole = ap joined made.0 ∙ outputs_joined (length job.inputs - 1) (lasting lasts (newest_of job.inputs)) in
-    let one = at_most job.written key (subst KeysRise (sym whole) (lasting_rises lasts (newest_of job.inputs) (newest_entries_rise (oldest_first job.inputs)))) in
+    let made_rise = rise_of_sources job.written (subst (AllByRecursion IsSource) (sym made.0) (merge_sound s.tables plan)) in
     let at = subst (λ (l : ℕ). AllAt l job.written) c.output made.1 in
+    let one = one_of_level (a + 1) job.written key (next_some a) at made_rise (rising_order (a + 1) job.written at (subst LieApart (sym made.0) (merge_apart s.tables plan))) in
     let n_on : says (on_level (a + 1) rest) key ≡ says n key = ap (λ (l : List Table). says l key) (on ∙ append-nil n) in
     let either : EitherNone (says job.written key) (says (on_level (a + 1) rest) key) = elim (either_joined (says i key) (says j key) (says n key) i_n x_parts.1) [
-      | inl none ↦ inl (w ∙ planned_say s.tables plan key ∙ lasting_none lasts (newest_of job.inputs) key (inputs_say job.inputs key sound_in ∙ ins ∙ none))
+      | inl none ↦ inl (w ∙ planned_say s.tables plan key ∙ lasting_none lasts (merged_of job.inputs) key (inputs_say job.inputs key sound_in ∙ ins ∙ none))
       | inr none ↦ inr (n_on ∙ none)
     ] in
     let u = option_or (says b key) (option_or (option_or (says p key) (says k key)) (says n key)) in
     let up_says : says (upto (a + 1) rest) key ≡ u = ap (λ (l : List Table). says l key) up ∙ says_five b p k n [] key
     ∙ ap (λ (o : Says). option_or (says b key) (option_or (option_or (says p key) (says k key)) o)) (or_none (says n key)) in
     let down_says : says (deeper (a + 1) rest) key ≡ says d key = ap (λ (l : List Table). says l key) down in
-    let new_says : says (fold inserted (without job.inputs all) job.written) key ≡ option_or u (option_or (first_found (planned s.tables plan) key) (says d key)) =
+    let new_says : says (fold inserted (without job.inputs all) job.written) key ≡ option_or u (option_or (first_said (planned s.tables plan) key) (says d key)) =
     ap (λ (l : List Table). says (fold inserted l job.written) key) remain
     ∙ fold_says (a + 1) job.written rest key levels at one either
     ∙ (λ z. option_or (up_says z) (option_or (w z) (down_says z))) in
@@ -400,7 +366,7 @@ install_says filter_bytes s job key sound is done =
     ∙ sym (ap (λ (o : Says). option_or u (option_or o (says d key))) ins) in
     let deep : says (deeper job.output all) key ≡ says d key = ap (λ (l : ℕ). says (deeper l all) key) c.output in
     ap live new_says
-    ∙ ap (λ (o : Says). live (option_or u (option_or (first_found (planned s.tables plan) key) o))) (sym deep)
+    ∙ ap (λ (o : Says). live (option_or u (option_or (first_said (planned s.tables plan) key) o))) (sym deep)
     ∙ same_rest filter_bytes s plan key u sound_in
     ∙ ap (λ (o : Says). live (option_or u (option_or (says job.inputs key) o))) deep
     ∙ sym (ap live old_says)
@@ -415,27 +381,17 @@ pub fold_all : (P : Table → Type 0) (new tables : List Table) → AllByRecursi
 fold_all P [] tables own all = all
 fold_all P (w ∷ new) tables own all = fold_all P new (inserted tables w) own.1 (insert_all P w tables own.0 all)
 
-lists_rise : (tables : List Table) → Rise tables → AllRise (lists_of tables)
-lists_rise [] rise = tt
-lists_rise (t ∷ more) rise = (rise.0, lists_rise more rise.1)
-
-rise_of_lists : (tables : List Table) → AllRise (lists_of tables) → Rise tables
-rise_of_lists [] rise = tt
-rise_of_lists (t ∷ more) rise = (rise.0, rise_of_lists more rise.1)
-
 pub install_keeps : (filter_bytes : FilterBytes) (s : State) (job : Job) → IsSound filter_bytes s → IsJob filter_bytes s.settings s.tables job → outstanding s.tables job ≡ [] → state_map (installed s job) ≡ state_map s
 install_keeps filter_bytes s job sound is done =
     let all = s.tables in
     let new = fold inserted (without job.inputs all) job.written in
-    let rise : Rise all = weaker IsSoundTable (λ (t : Table). KeysRise t.entries) (λ t st. rises_follow is_any t.entries st.entries.rising) all sound.tables in
+    let rise : Rise all = weaker IsSoundTable (λ (t : Table). IsSource (as_source t)) (λ t st. st.source) all sound.tables in
     let made = made_lists filter_bytes s job.output (planned s.tables (plan_of_job job)) job.written is.written done in
-    let lasts = is_deepest s.tables job.output in
-    let whole = ap joined made.0 ∙ outputs_joined (length job.inputs - 1) (lasting lasts (newest_of job.inputs)) in
-    let made_rise = rise_of_lists job.written (parts_rise (lists_of job.written) (subst KeysRise (sym whole) (lasting_rises lasts (newest_of job.inputs) (newest_entries_rise (oldest_first job.inputs))))) in
+    let made_rise = rise_of_sources job.written (subst (AllByRecursion IsSource) (sym made.0) (merge_sound s.tables (plan_of_job job))) in
     let out = λ (t : Table). not (list_any (λ (u : Table). u.first_page == t.first_page) job.inputs) in
-    let new_rise = fold_all (λ (t : Table). KeysRise t.entries) job.written (without job.inputs all) made_rise (all_kept (λ (t : Table). KeysRise t.entries) out all rise) in
+    let new_rise = fold_all (λ (t : Table). IsSource (as_source t)) job.written (without job.inputs all) made_rise (all_kept (λ (t : Table). IsSource (as_source t)) out all rise) in
     same_map (oldest_first new ++ s.log) (oldest_first all ++ s.log) (λ key.
-    ap live (newest-append (oldest_first new) s.log key)
-    ∙ live_behind (newest s.log key) (newest (oldest_first new) key) (newest (oldest_first all) key)
-    (ap live (newest_of_tables new key (lists_rise new new_rise)) ∙ install_says filter_bytes s job key sound is done ∙ sym (ap live (newest_of_tables all key (lists_rise all rise))))
-    ∙ sym (ap live (newest-append (oldest_first all) s.log key)))
+    ap live (said_both (oldest_first new) s.log key)
+    ∙ live_behind (last_said s.log key) (last_said (oldest_first new) key) (last_said (oldest_first all) key)
+    (ap live (said_of_tables new key (sources_rise new new_rise)) ∙ install_says filter_bytes s job key sound is done ∙ sym (ap live (said_of_tables all key (sources_rise all rise))))
+    ∙ sym (ap live (said_both (oldest_first all) s.log key)))

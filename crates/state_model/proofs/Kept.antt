@@ -1,25 +1,30 @@
--- What a flush, an entry that is written and a compaction make of the map.
-use Rattle.std.proofs.Common.{◌≡◌, List, [], ◌∷◌, ◌++◌, refl, sym, ap, ◌∙◌, subst, true, false, cond, map}
+-- What a flush, a change that is written and a compaction make of the map.
+use Rattle.std.proofs.Common.{◌≡◌, List, [], ◌∷◌, ◌++◌, refl, sym, ap, ◌∙◌, subst, true, false, cond}
 use Rattle.std.specs.Option.{option_or}
-use Rattle.std.specs.Prelude.{Option, Result, Ok, Err, nat_le, length, ◌==◌, ◌+◌, ◌-◌}
+use Rattle.std.specs.Prelude.{Option, Result, Ok, Err, nat_le, length, ◌==◌, ◌+◌}
 use Rattle.std.proofs.lemmas.List.{append_assoc, append-nil, map-append}
 use Rattle.std.proofs.lemmas.List.Sums.{fold-append}
 use Rattle.key_base.specs.Limits.{last_epoch, max_tables}
 use Rattle.map_model.specs.SortedMap.{Bytes, Map}
-use Rattle.entry_model.specs.Entries.{Entry, newest, live, changed, need, gap, map_of}
-use Rattle.entry_model.specs.Newest.{KeysRise, newest_entries, lookup}
-use Rattle.entry_model.proofs.Newest.{lookup_newest}
+use Rattle.entry_model.specs.Entries.{Entry, live}
+use Rattle.range_model.specs.Sources.{Change, IsSource, Source, alone, changes_in, last_said, source_of}
+use Rattle.range_model.specs.ChangedMaps.{map_changed_by, map_of_changes}
+use Rattle.range_model.specs.Hiding.{oldest_changes}
+use Rattle.range_model.proofs.Sources.{source_says}
+use Rattle.range_model.proofs.Sound.{said_both}
 use Rattle.state_model.specs.State.{State, without_job}
-use Rattle.table_model.specs.Tables.{FilterBytes, Table}
-use Rattle.state_model.specs.View.{memory, entries_of, oldest_first, state_map}
+use Rattle.table_model.specs.Tables.{FilterBytes, Table, as_source}
+use Rattle.state_model.specs.Logs.{gap_after, need_of, recorded}
+use Rattle.state_model.specs.View.{in_memory, memory, sources_of, changes_of, oldest_first, state_map, sources}
 use Rattle.state_model.specs.Taken.{taken}
-use Rattle.state_model.specs.Merges.{NoRoom, placed, outputs_for, has_value}
-use Rattle.state_model.specs.Changes.{with_tables, flush_placed, flushed_with, flushed, is_long, logged, logged_then, written, compact_placed, live_entries, compacted_with, compacted}
+use Rattle.state_model.specs.Merges.{NoRoom, placed}
+use Rattle.state_model.specs.Changes.{with_tables, flush_placed, flushed_with, flushed, is_long, logged, logged_then, written, compact_placed, compacted_outputs, live_entries, compacted_with, compacted}
 use Rattle.line_model.specs.Replies.{Reply, ManyTables, LastEpoch}
 use Rattle.state_model.specs.Laws.{is_done}
 use Rattle.state_model.proofs.SameMaps.{same_map}
-use Rattle.state_model.proofs.Sayings.{newest-append, newest_again, newest_entries_rise, newest_backwards, oldest_first-backwards, backwards, lists_of, rises_filter, live_without_tombstones}
-use Rattle.state_model.proofs.Outputs.{outputs_joined, parts_rise, lookup_joined, placed_lists}
+use Rattle.state_model.proofs.Sayings.{said_again, said_backwards, source_sound}
+use Rattle.state_model.proofs.Merged.{lasting_is, lasting_say}
+use Rattle.state_model.proofs.Outputs.{cut_are, cut_say, placed_lists}
 
 -- a change that is done has this; one that is refused is not answered as done
 abbrev pub IfDone : (State → Type 0) → Result State Reply → Type 0
@@ -34,103 +39,102 @@ KeepsMap s t = state_map t ≡ state_map s
 
 -- ---- flush
 
--- the tables with one more in front, of the newest entries of the log, say what tables and log say
-flush_says : (s : State) (made : List Table) (key : Bytes) → lists_of made ≡ memory s ∷ [] → newest (oldest_first (made ++ s.tables) ++ []) key ≡ newest (entries_of s) key
-flush_says s made key lists =
-    ap (λ (l : List Entry). newest l key) (append-nil (oldest_first (made ++ s.tables))
-    ∙ oldest_first-backwards (made ++ s.tables)
-    ∙ ap backwards (map-append (λ (t : Table). t.entries) made s.tables ∙ ap (λ (l : List (List Entry)). l ++ lists_of s.tables) lists)
-    ∙ ap (λ (l : List Entry). l ++ memory s) (sym (oldest_first-backwards s.tables)))
-    ∙ newest-append (oldest_first s.tables) (memory s) key
-    ∙ ap (λ (o : Option (Option Bytes)). option_or o (newest (oldest_first s.tables) key)) (newest_again s.log key)
-    ∙ sym (newest-append (oldest_first s.tables) s.log key)
+-- the tables with one more in front, of what is in memory, say what tables and log say
+flush_says : (s : State) (made : List Table) (key : Bytes) → sources_of made ≡ in_memory s ∷ [] → last_said (oldest_first (made ++ s.tables) ++ []) key ≡ last_said (changes_of s) key
+flush_says s made key sources =
+    ap (λ (l : List Change). last_said l key) (append-nil (oldest_first (made ++ s.tables))
+    ∙ ap oldest_changes (map-append as_source made s.tables ∙ ap (λ (l : List Source). l ++ sources_of s.tables) sources))
+    ∙ said_both (oldest_first s.tables) (changes_in (in_memory s)) key
+    ∙ ap (λ (o : Option (Option Bytes)). option_or o (last_said (oldest_first s.tables) key)) (said_again s.log key)
+    ∙ sym (said_both (oldest_first s.tables) s.log key)
 
-with_tables_keeps : (s : State) (made : List Table) → lists_of made ≡ memory s ∷ [] → IfDone (KeepsMap s) (with_tables s (made ++ s.tables))
-with_tables_keeps s made lists = elim (s.epoch == last_epoch) as (λ t. IfDone (KeepsMap s) (cond t (Err LastEpoch) (Ok (record s { epoch = s.epoch + 1; log = []; tables = made ++ s.tables })))) [
+with_tables_keeps : (s : State) (made : List Table) → sources_of made ≡ in_memory s ∷ [] → IfDone (KeepsMap s) (with_tables s (made ++ s.tables))
+with_tables_keeps s made sources = elim (s.epoch == last_epoch) as (λ t. IfDone (KeepsMap s) (cond t (Err LastEpoch) (Ok (record s { epoch = s.epoch + 1; log = []; tables = made ++ s.tables })))) [
   | true ↦ refl
-  | false ↦ same_map (oldest_first (made ++ s.tables) ++ []) (entries_of s) (λ key. ap live (flush_says s made key lists))
+  | false ↦ same_map (oldest_first (made ++ s.tables) ++ []) (changes_of s) (λ key. ap live (flush_says s made key sources))
 ]
 
-flush_placed_keeps : (filter_bytes : FilterBytes) (s : State) (done : Result (List Table) NoRoom) → placed filter_bytes s.settings s.pages (taken s) 0 (memory s ∷ []) ≡ done → IfDone (KeepsMap s) (flush_placed s done)
-flush_placed_keeps filter_bytes s (Ok made) e = with_tables_keeps s made (placed_lists filter_bytes s (taken s) 0 (memory s ∷ []) made e)
+flush_placed_keeps : (filter_bytes : FilterBytes) (s : State) (done : Result (List Table) NoRoom) → placed filter_bytes s.settings s.pages (taken s) 0 (in_memory s ∷ []) ≡ done → IfDone (KeepsMap s) (flush_placed s done)
+flush_placed_keeps filter_bytes s (Ok made) e = with_tables_keeps s made (placed_lists filter_bytes s (taken s) 0 (in_memory s ∷ []) made e)
 flush_placed_keeps filter_bytes s (Err refusal) e = refl
 
-flushed_with_keeps : (filter_bytes : FilterBytes) (s : State) (entries : List Entry) → memory s ≡ entries → IfDone (KeepsMap s) (flushed_with filter_bytes s entries)
-flushed_with_keeps filter_bytes s [] e = refl
-flushed_with_keeps filter_bytes s (entry ∷ more) e = elim (nat_le max_tables (length s.tables)) as (λ t. IfDone (KeepsMap s) (cond t (Err ManyTables) (flush_placed s (placed filter_bytes s.settings s.pages (taken s) 0 ((entry ∷ more) ∷ []))))) [
-  | true ↦ refl
-  | false ↦ flush_placed_keeps filter_bytes s (placed filter_bytes s.settings s.pages (taken s) 0 ((entry ∷ more) ∷ [])) (ap (λ (l : List Entry). placed filter_bytes s.settings s.pages (taken s) 0 (l ∷ [])) e)
-]
+flushed_with_keeps : (filter_bytes : FilterBytes) (s : State) (entries : List Entry) → IfDone (KeepsMap s) (flushed_with filter_bytes s (in_memory s) entries)
+flushed_with_keeps filter_bytes s [] = refl
+flushed_with_keeps filter_bytes s (entry ∷ more) =
+    let done = placed filter_bytes s.settings s.pages (taken s) 0 (in_memory s ∷ []) in
+    elim (nat_le max_tables (length s.tables)) as (λ t. IfDone (KeepsMap s) (cond t (Err ManyTables) (flush_placed s done))) [
+      | true ↦ refl
+      | false ↦ flush_placed_keeps filter_bytes s done refl
+    ]
 
 pub flushed_done : (filter_bytes : FilterBytes) (s : State) → IfDone (KeepsMap s) (flushed filter_bytes s)
-flushed_done filter_bytes s = flushed_with_keeps filter_bytes s (memory s) refl
+flushed_done filter_bytes s = flushed_with_keeps filter_bytes s (memory s)
 
 pub flushed_keeps : (filter_bytes : FilterBytes) (s t : State) → flushed filter_bytes s ≡ Ok t → state_map t ≡ state_map s
 flushed_keeps filter_bytes s t e = if_done (KeepsMap s) (flushed filter_bytes s) t (flushed_done filter_bytes s) e
 
--- ---- one entry
+-- ---- one change
 
-logged_changes : (s : State) (entry : Entry) → state_map (logged s entry) ≡ changed (state_map s) entry
-logged_changes s entry = ap map_of (sym (append_assoc (oldest_first s.tables) s.log (entry ∷ []))) ∙ fold-append changed [] (entries_of s) (entry ∷ [])
+logged_makes : (s : State) (change : Change) → state_map (logged s change) ≡ map_changed_by (state_map s) change
+logged_makes s change = ap map_of_changes (sym (append_assoc (oldest_first s.tables) s.log (change ∷ []))) ∙ fold-append map_changed_by [] (changes_of s) (change ∷ [])
 
-abbrev pub Makes : Map → Entry → State → Type 0
-Makes map entry t = state_map t ≡ changed map entry
+abbrev pub Makes : Map → Change → State → Type 0
+Makes map change t = state_map t ≡ map_changed_by map change
 
-logged_then_makes : (map : Map) (entry : Entry) (done : Result State Reply) → IfDone (λ s. state_map s ≡ map) done → IfDone (Makes map entry) (logged_then entry done)
-logged_then_makes map entry (Ok s) same = logged_changes s entry ∙ ap (λ (m : Map). changed m entry) same
-logged_then_makes map entry (Err refusal) same = same
+logged_then_makes : (map : Map) (change : Change) (done : Result State Reply) → IfDone (λ s. state_map s ≡ map) done → IfDone (Makes map change) (logged_then change done)
+logged_then_makes map change (Ok s) same = logged_makes s change ∙ ap (λ (m : Map). map_changed_by m change) same
+logged_then_makes map change (Err refusal) same = same
 
--- a flush over the memory entries keeps the map of the state with the entry
-flushed_over_makes : (s : State) (entry : Entry) (done : Result State Reply) → IfDone (KeepsMap (logged s entry)) done → IfDone (Makes (state_map s) entry) done
-flushed_over_makes s entry (Ok t) same = same ∙ logged_changes s entry
-flushed_over_makes s entry (Err refusal) same = same
+-- a flush over what is in memory keeps the map of the state with the change
+flushed_over_makes : (s : State) (change : Change) (done : Result State Reply) → IfDone (KeepsMap (logged s change)) done → IfDone (Makes (state_map s) change) done
+flushed_over_makes s change (Ok t) same = same ∙ logged_makes s change
+flushed_over_makes s change (Err refusal) same = same
 
-short_done : (filter_bytes : FilterBytes) (s : State) (entry : Entry) → IfDone (Makes (state_map s) entry) (cond (nat_le (need entry) (gap s.log)) (Ok (logged s entry)) (logged_then entry (flushed filter_bytes s)))
-short_done filter_bytes s entry = elim (nat_le (need entry) (gap s.log)) as (λ t. IfDone (Makes (state_map s) entry) (cond t (Ok (logged s entry)) (logged_then entry (flushed filter_bytes s)))) [
-  | true ↦ logged_changes s entry
-  | false ↦ logged_then_makes (state_map s) entry (flushed filter_bytes s) (flushed_done filter_bytes s)
+short_done : (filter_bytes : FilterBytes) (s : State) (change : Change)
+    → IfDone (Makes (state_map s) change) (cond (nat_le (need_of change) (gap_after s.log)) (Ok (logged s change)) (logged_then change (flushed filter_bytes s)))
+short_done filter_bytes s change = elim (nat_le (need_of change) (gap_after s.log)) as (λ t. IfDone (Makes (state_map s) change) (cond t (Ok (logged s change)) (logged_then change (flushed filter_bytes s)))) [
+  | true ↦ logged_makes s change
+  | false ↦ logged_then_makes (state_map s) change (flushed filter_bytes s) (flushed_done filter_bytes s)
 ]
 
-pub written_done : (filter_bytes : FilterBytes) (s : State) (entry : Entry) → IfDone (Makes (state_map s) entry) (written filter_bytes s entry)
-written_done filter_bytes s entry = elim (is_long entry) as (λ long. IfDone (Makes (state_map s) entry)
-    (cond long (flushed filter_bytes (logged s entry)) (cond (nat_le (need entry) (gap s.log)) (Ok (logged s entry)) (logged_then entry (flushed filter_bytes s))))) [
-      | true ↦ flushed_over_makes s entry (flushed filter_bytes (logged s entry)) (flushed_done filter_bytes (logged s entry))
-      | false ↦ short_done filter_bytes s entry
+pub written_done : (filter_bytes : FilterBytes) (s : State) (change : Change) → IfDone (Makes (state_map s) change) (written filter_bytes s change)
+written_done filter_bytes s change = elim (is_long (recorded change)) as (λ long. IfDone (Makes (state_map s) change)
+    (cond long (flushed filter_bytes (logged s change)) (cond (nat_le (need_of change) (gap_after s.log)) (Ok (logged s change)) (logged_then change (flushed filter_bytes s))))) [
+      | true ↦ flushed_over_makes s change (flushed filter_bytes (logged s change)) (flushed_done filter_bytes (logged s change))
+      | false ↦ short_done filter_bytes s change
     ]
 
-pub written_makes : (filter_bytes : FilterBytes) (s t : State) (entry : Entry) → written filter_bytes s entry ≡ Ok t → state_map t ≡ changed (state_map s) entry
-written_makes filter_bytes s t entry e = if_done (Makes (state_map s) entry) (written filter_bytes s entry) t (written_done filter_bytes s entry) e
+pub written_makes : (filter_bytes : FilterBytes) (s t : State) (change : Change) → written filter_bytes s change ≡ Ok t → state_map t ≡ map_changed_by (state_map s) change
+written_makes filter_bytes s t change e = if_done (Makes (state_map s) change) (written filter_bytes s change) t (written_done filter_bytes s change) e
 
 -- ---- compaction
 
-live_says : (s : State) (key : Bytes) → live (lookup (live_entries s) key) ≡ live (newest (entries_of s) key)
-live_says s key = live_without_tombstones (newest_entries (entries_of s)) key (newest_entries_rise (entries_of s)) ∙ ap live (lookup_newest (entries_of s) key)
+live_are : (s : State) → IsSource (alone (live_entries s))
+live_are s = lasting_is true (source_of (changes_of s)) (source_sound (changes_of s))
 
-compact_says : (s : State) (made : List Table) (key : Bytes) → lists_of made ≡ outputs_for s.tables (live_entries s) → newest (oldest_first made ++ []) key ≡ lookup (live_entries s) key
-compact_says s made key lists =
-    let whole = outputs_joined (length s.tables - 1) (live_entries s) in
-    let rises = rises_filter (λ (e : Entry). has_value e.value) (newest_entries (entries_of s)) (newest_entries_rise (entries_of s)) in
-    ap (λ (l : List Entry). newest l key) (append-nil (oldest_first made) ∙ oldest_first-backwards made ∙ ap backwards lists)
-    ∙ newest_backwards (outputs_for s.tables (live_entries s)) key (parts_rise (outputs_for s.tables (live_entries s)) (subst KeysRise (sym whole) rises))
-    ∙ lookup_joined (outputs_for s.tables (live_entries s)) key
-    ∙ ap (λ (l : List Entry). lookup l key) whole
+compact_says : (s : State) (made : List Table) (key : Bytes) → sources_of made ≡ compacted_outputs s → live (last_said (oldest_first made ++ []) key) ≡ live (last_said (changes_of s) key)
+compact_says s made key sources =
+    ap (λ (l : List Change). live (last_said l key)) (append-nil (oldest_first made) ∙ ap oldest_changes sources)
+    ∙ ap live (said_backwards (compacted_outputs s) key (cut_are s.tables (alone (live_entries s)) (live_are s)) ∙ cut_say s.tables (alone (live_entries s)) key (live_are s))
+    ∙ lasting_say true (source_of (changes_of s)) key (source_sound (changes_of s)).rises
+    ∙ ap live (source_says (changes_of s) key)
 
-compact_placed_keeps : (filter_bytes : FilterBytes) (s : State) (done : Result (List Table) NoRoom) → placed filter_bytes s.settings s.pages (taken (without_job s)) 6 (outputs_for s.tables (live_entries s)) ≡ done → IfDone (KeepsMap s) (compact_placed s done)
-compact_placed_keeps filter_bytes s (Ok made) e = same_map (oldest_first made ++ []) (entries_of s)
-    (λ key. ap live (compact_says s made key (placed_lists filter_bytes s (taken (without_job s)) 6 (outputs_for s.tables (live_entries s)) made e)) ∙ live_says s key)
+compact_placed_keeps : (filter_bytes : FilterBytes) (s : State) (done : Result (List Table) NoRoom) → placed filter_bytes s.settings s.pages (taken (without_job s)) 6 (compacted_outputs s) ≡ done → IfDone (KeepsMap s) (compact_placed s done)
+compact_placed_keeps filter_bytes s (Ok made) e = same_map (oldest_first made ++ []) (changes_of s)
+    (λ key. compact_says s made key (placed_lists filter_bytes s (taken (without_job s)) 6 (compacted_outputs s) made e))
 compact_placed_keeps filter_bytes s (Err refusal) e = refl
 
-compacted_with_keeps : (filter_bytes : FilterBytes) (s : State) (entries : List Entry) → IfDone (KeepsMap s) (compacted_with filter_bytes s entries)
+compacted_with_keeps : (filter_bytes : FilterBytes) (s : State) (changes : List Change) → IfDone (KeepsMap s) (compacted_with filter_bytes s changes)
 compacted_with_keeps filter_bytes s [] = refl
-compacted_with_keeps filter_bytes s (entry ∷ more) =
-    let done = placed filter_bytes s.settings s.pages (taken (without_job s)) 6 (outputs_for s.tables (live_entries s)) in
+compacted_with_keeps filter_bytes s (change ∷ more) =
+    let done = placed filter_bytes s.settings s.pages (taken (without_job s)) 6 (compacted_outputs s) in
     elim (s.epoch == last_epoch) as (λ t. IfDone (KeepsMap s) (cond t (Err LastEpoch) (compact_placed s done))) [
       | true ↦ refl
       | false ↦ compact_placed_keeps filter_bytes s done refl
     ]
 
 pub compacted_done : (filter_bytes : FilterBytes) (s : State) → IfDone (KeepsMap s) (compacted filter_bytes s)
-compacted_done filter_bytes s = compacted_with_keeps filter_bytes s (entries_of s)
+compacted_done filter_bytes s = compacted_with_keeps filter_bytes s (changes_of s)
 
 pub compacted_keeps : (filter_bytes : FilterBytes) (s t : State) → compacted filter_bytes s ≡ Ok t → state_map t ≡ state_map s
 compacted_keeps filter_bytes s t e = if_done (KeepsMap s) (compacted filter_bytes s) t (compacted_done filter_bytes s) e

@@ -52,3 +52,4 @@ pub mod Stepped
 pub mod Estimates
 pub mod Slices
 pub mod Alone
+pub mod WithoutRanges

@@ -14,6 +14,7 @@ use Rattle.line_model.specs.Replies.{Reply, LongKey, LongValue}
 use Rattle.state_model.specs.Steps.{Answer, answer, answer_within, done_or_refused, unless_limit}
 use Rattle.state_model.specs.Laws.{is_done, map_behind}
 use Rattle.state_model.proofs.Kept.{IfDone, KeepsMap, Makes, flushed_done, written_done, compacted_done}
+use Rattle.range_model.specs.Sources.{Sets}
 
 -- the answer leaves the map that its line and reply tell
 abbrev Leaves : State → Request → Answer → Type 0
@@ -42,11 +43,11 @@ del_limited : (s : State) (key : Bytes) (limit : Option Reply) (a : Answer) → 
 del_limited s key (Some reply) a limited leaves = sym (ap (λ (t : Bool). cond t (del (state_map s) key) (state_map s)) limited)
 del_limited s key None a limited leaves = leaves
 
-put_changed : (s : State) (key value : Bytes) (done : Result State Reply) → IfDone (Makes (state_map s) (put_entry key value)) done → Leaves s (Put key value) (done_or_refused s done)
+put_changed : (s : State) (key value : Bytes) (done : Result State Reply) → IfDone (Makes (state_map s) (Sets (put_entry key value))) done → Leaves s (Put key value) (done_or_refused s done)
 put_changed s key value (Ok t) so = so
 put_changed s key value (Err refusal) so = sym (ap (λ (t : Bool). cond t (put (state_map s) key value) (state_map s)) so)
 
-del_changed : (s : State) (key : Bytes) (done : Result State Reply) → IfDone (Makes (state_map s) (del_entry key)) done → Leaves s (Del key) (done_or_refused s done)
+del_changed : (s : State) (key : Bytes) (done : Result State Reply) → IfDone (Makes (state_map s) (Sets (del_entry key))) done → Leaves s (Del key) (done_or_refused s done)
 del_changed s key (Ok t) so = so
 del_changed s key (Err refusal) so = sym (ap (λ (t : Bool). cond t (del (state_map s) key) (state_map s)) so)
 
@@ -61,11 +62,11 @@ read_kept s (Some refusal) reply = refl
 read_kept s None reply = refl
 
 pub lines_change : (filter_bytes : FilterBytes) (s : State) (request : Request) → state_map (answer filter_bytes s request).1 ≡ map_behind request (answer filter_bytes s request).0 (state_map s)
-lines_change filter_bytes s (Put key value) = put_limited s key value (limit_of (Put key value)) (done_or_refused s (written filter_bytes s (put_entry key value)))
+lines_change filter_bytes s (Put key value) = put_limited s key value (limit_of (Put key value)) (done_or_refused s (written filter_bytes s (Sets (put_entry key value))))
     (first_limited (key_limit key) (value_limit value) (key_limited key) (value_limited value))
-    (put_changed s key value (written filter_bytes s (put_entry key value)) (written_done filter_bytes s (put_entry key value)))
-lines_change filter_bytes s (Del key) = del_limited s key (key_limit key) (done_or_refused s (written filter_bytes s (del_entry key))) (key_limited key)
-    (del_changed s key (written filter_bytes s (del_entry key)) (written_done filter_bytes s (del_entry key)))
+    (put_changed s key value (written filter_bytes s (Sets (put_entry key value))) (written_done filter_bytes s (Sets (put_entry key value))))
+lines_change filter_bytes s (Del key) = del_limited s key (key_limit key) (done_or_refused s (written filter_bytes s (Sets (del_entry key)))) (key_limited key)
+    (del_changed s key (written filter_bytes s (Sets (del_entry key))) (written_done filter_bytes s (Sets (del_entry key))))
 lines_change filter_bytes s (Get key) = read_kept s (key_limit key) (answer_within filter_bytes s (Get key)).0
 lines_change filter_bytes s (Seek lo None) = read_kept s (limit_of (Seek lo None)) (answer_within filter_bytes s (Seek lo None)).0
 lines_change filter_bytes s (Seek lo (Some hi)) = read_kept s (limit_of (Seek lo (Some hi))) (answer_within filter_bytes s (Seek lo (Some hi))).0

@@ -5,7 +5,7 @@ use Rattle.key_base.specs.Limits.{last_epoch, max_tables}
 use Rattle.entry_model.specs.Entries.{Entry}
 use Rattle.state_model.specs.State.{State}
 use Rattle.table_model.specs.Tables.{FilterBytes, Table}
-use Rattle.state_model.specs.View.{memory}
+use Rattle.state_model.specs.View.{memory, in_memory}
 use Rattle.state_model.specs.Merges.{NoRoom}
 use Rattle.state_model.specs.Changes.{flush_placed, flushed, flushed_with, with_tables}
 use Rattle.state_model.specs.Refusals.{flush_places}
@@ -23,11 +23,11 @@ placed_few : (s : State) (done : Result (List Table) NoRoom) → flush_placed s 
 placed_few s (Ok made) = put_in_place s (made ++ s.tables)
 placed_few s (Err refusal) = λ e. cc
 
-flushed_few : (filter_bytes : FilterBytes) (s : State) (entries : List Entry) → memory s ≡ entries → length s.tables < max_tables → flushed_with filter_bytes s entries ≡ Err ManyTables → ⊥
+flushed_few : (filter_bytes : FilterBytes) (s : State) (entries : List Entry) → memory s ≡ entries → length s.tables < max_tables → flushed_with filter_bytes s (in_memory s) entries ≡ Err ManyTables → ⊥
 flushed_few filter_bytes s [] e few wrong = cc
 flushed_few filter_bytes s (entry ∷ more) e few wrong =
     let some : memory s ≢ [] = λ none. not_none (sym e ∙ none) in
-    placed_few s (flush_places filter_bytes s Flush) (sym (flush_few filter_bytes s some few) ∙ ap (flushed_with filter_bytes s) e ∙ wrong)
+    placed_few s (flush_places filter_bytes s Flush) (sym (flush_few filter_bytes s some few) ∙ ap (flushed_with filter_bytes s (in_memory s)) e ∙ wrong)
   where
     not_none : entry ∷ more ≡ [] → ⊥
     not_none e = cc

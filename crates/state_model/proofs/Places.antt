@@ -13,7 +13,7 @@ use Rattle.block_model.specs.Laws.{joined}
 use Rattle.block_model.specs.Pages.{pages_for, block_length, block_pages, blocks_of, data_pages, has_room, max_block_entries, page_bytes}
 use Rattle.block_model.proofs.Cutting.{each_block, blocks_joined}
 use Rattle.std.proofs.lemmas.Bool.{and_parts, ltb-true}
-use Rattle.table_model.specs.Tables.{FilterBytes, Table, table_of, table_pages}
+use Rattle.table_model.specs.Tables.{FilterBytes, Table, table_from, source_pages}
 use Rattle.extent_model.specs.Extents.{Extent, IsOnDevice, AreApart}
 use Rattle.extent_model.specs.Gaps.{first_gap, largest_gap}
 use Rattle.state_model.specs.Taken.{extent_of}
@@ -22,6 +22,8 @@ use Rattle.state_model.specs.Sound.{IsSoundTable, AreMade}
 use Rattle.extent_model.proofs.Lists.{Pairs, Mutual}
 use Rattle.extent_model.proofs.Free.{gap_is_free, Laid, apart_mutual}
 use Rattle.state_model.proofs.Orders.{all_out, pairs_out, all_of_map, all_to_map, pairs_of_map, pairs_to_map}
+use Rattle.range_model.specs.Sources.{Source, IsSource}
+use Rattle.range_model.specs.Ranges.{HasBounds}
 
 -- ---- a table with entries has pages
 
@@ -81,19 +83,33 @@ entries_in_blocks entries =
     subst (λ (l : List Entry). length l ≤ 255 * length (blocks_of entries)) (blocks_joined entries) (blocks_joined_small (blocks_of entries) small)
 
 -- a table of one entry or more has one block or more, each of a page or more
-pub blocks_have_pages : (filter_bytes : FilterBytes) (settings : Settings) (entries : List Entry) → 1 ≤ length entries
-    → (1 ≤ length (blocks_of entries)) × (length (blocks_of entries) ≤ table_pages filter_bytes settings entries)
+pub blocks_have_pages : (filter_bytes : FilterBytes) (settings : Settings) (s : Source) → 1 ≤ length s.entries
+    → (1 ≤ length (blocks_of s.entries)) × (length (blocks_of s.entries) ≤ source_pages filter_bytes settings s)
 unfolding data_pages
-blocks_have_pages filter_bytes settings entries some = (omega (arith, entries_in_blocks entries, some), omega (arith, blocks_within (blocks_of entries)))
+blocks_have_pages filter_bytes settings s some = (omega (arith, entries_in_blocks s.entries, some), omega (arith, blocks_within (blocks_of s.entries)))
 
--- the table that is made of a table's entries is sound
-pub table_is_sound : (filter_bytes : FilterBytes) (settings : Settings) (level page : ℕ) (entries : List Entry) → level ≤ 6 → InRange settings → settings.ratio ≤ 65535 → IsTable entries
-    → IsSoundTable (table_of filter_bytes settings level page entries)
-table_is_sound filter_bytes settings level page entries deep range ratio is =
-    record { level = deep; entries = is; blocks = blocks_have_pages filter_bytes settings entries is.some; few = entries_in_blocks entries; settings = range; ratio = ratio }
+-- a sound source with the entries of a table, whose ranges have keys as bounds
+pub record IsTableSource (s : Source) : Type 0 where
+  pub entries : IsTable s.entries
+  pub source : IsSource s
+  pub bounds : AllByRecursion HasBounds s.ranges
 
-pub has_pages : (filter_bytes : FilterBytes) (settings : Settings) (entries : List Entry) → 1 ≤ length entries → 0 < table_pages filter_bytes settings entries
-has_pages filter_bytes settings entries some = omega (arith, entries_in_pages entries)
+-- the table that is made of one is sound
+pub table_is_sound : (filter_bytes : FilterBytes) (settings : Settings) (level page : ℕ) (s : Source) → level ≤ 6 → InRange settings → settings.ratio ≤ 65535 → IsTableSource s
+    → IsSoundTable (table_from filter_bytes settings level page s)
+table_is_sound filter_bytes settings level page s deep range ratio is = record {
+  level = deep;
+  entries = is.entries;
+  source = is.source;
+  bounds = is.bounds;
+  blocks = blocks_have_pages filter_bytes settings s is.entries.some;
+  few = entries_in_blocks s.entries;
+  settings = range;
+  ratio = ratio;
+}
+
+pub has_pages : (filter_bytes : FilterBytes) (settings : Settings) (s : Source) → 1 ≤ length s.entries → 0 < source_pages filter_bytes settings s
+has_pages filter_bytes settings s some = omega (arith, entries_in_pages s.entries)
 
 -- ---- tables that are placed
 
@@ -108,20 +124,20 @@ front_of t (Ok tables) made e = record { rest = tables; first = cc; later = refl
 front_of t (Err refusal) made e = absurd cc
 
 -- Outputs that are placed beside laid extents are laid with them, and made as they should be.
-pub placed_laid : (filter_bytes : FilterBytes) (settings : Settings) (pages : ℕ) (xs : List Extent) (level : ℕ) (outputs : List (List Entry)) (made : List Table)
-    → AllByRecursion (λ (output : List Entry). 1 ≤ length output) outputs → Laid pages xs
+pub placed_laid : (filter_bytes : FilterBytes) (settings : Settings) (pages : ℕ) (xs : List Extent) (level : ℕ) (outputs : List Source) (made : List Table)
+    → AllByRecursion (λ (output : Source). 1 ≤ length output.entries) outputs → Laid pages xs
     → placed filter_bytes settings pages xs level outputs ≡ Ok made → Laid pages (map extent_of made ++ xs) × AreMade filter_bytes settings level outputs made
 placed_laid filter_bytes settings pages xs level [] made some laid e =
     subst (λ (l : List Table). Laid pages (map extent_of l ++ xs) × AreMade filter_bytes settings level [] l) (let same : [] ≡ made = cc in same) (laid, tt)
 placed_laid filter_bytes settings pages xs level (output ∷ more) made some laid e =
-    let need = table_pages filter_bytes settings output in
-    let there = λ (page : ℕ). before (table_of filter_bytes settings level page output) (placed filter_bytes settings pages ((page, need) ∷ xs) level more) in
+    let need = source_pages filter_bytes settings output in
+    let there = λ (page : ℕ). before (table_from filter_bytes settings level page output) (placed filter_bytes settings pages ((page, need) ∷ xs) level more) in
     let refused : NoRoom = record { need = need; gap = largest_gap pages xs } in
     elim (first_gap pages xs need) as (λ o. first_gap pages xs need ≡ o → at_page o there refused ≡ Ok made
     → Laid pages (map extent_of made ++ xs) × AreMade filter_bytes settings level (output ∷ more) made) [
       | None ↦ λ is so. absurd cc
       | Some page ↦ λ is so.
-          let t = table_of filter_bytes settings level page output in
+          let t = table_from filter_bytes settings level page output in
           let free = gap_is_free pages xs need page (has_pages filter_bytes settings output some.0) laid.0 is in
           let front = front_of t (placed filter_bytes settings pages ((page, need) ∷ xs) level more) made so in
           let rest = placed_laid filter_bytes settings pages ((page, need) ∷ xs) level more front.rest some.1 ((free.0, laid.0), (free.1, laid.1)) front.later in
@@ -155,9 +171,9 @@ stand_of pages tables laid = (all_of_map (IsOnDevice pages) extent_of tables lai
 pub laid_tables : (pages : ℕ) (tables : List Table) → Stand pages tables → Laid pages (map extent_of tables)
 laid_tables pages tables stand = (all_to_map (IsOnDevice pages) extent_of tables stand.0, pairs_to_map AreApart extent_of tables stand.1)
 
--- placed beside tables that stand, they stand with them
-pub placed_stand : (filter_bytes : FilterBytes) (settings : Settings) (pages : ℕ) (beside : List Table) (level : ℕ) (outputs : List (List Entry)) (made : List Table)
-    → AllByRecursion (λ (output : List Entry). 1 ≤ length output) outputs → Stand pages beside
+-- placed beside tables that are there, they are with them
+pub placed_stand : (filter_bytes : FilterBytes) (settings : Settings) (pages : ℕ) (beside : List Table) (level : ℕ) (outputs : List Source) (made : List Table)
+    → AllByRecursion (λ (output : Source). 1 ≤ length output.entries) outputs → Stand pages beside
     → placed filter_bytes settings pages (map extent_of beside) level outputs ≡ Ok made → Stand pages (made ++ beside) × AreMade filter_bytes settings level outputs made
 placed_stand filter_bytes settings pages beside level outputs made some stand e =
     let laid = placed_laid filter_bytes settings pages (map extent_of beside) level outputs made some (laid_tables pages beside stand) e in

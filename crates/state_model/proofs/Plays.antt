@@ -8,11 +8,11 @@ use Rattle.map_model.specs.SortedMap.{Bytes, get}
 use Rattle.entry_model.specs.Entries.{Entry, need, gap, put_entry, del_entry}
 use Rattle.state_model.specs.State.{State, without_job}
 use Rattle.table_model.specs.Tables.{FilterBytes, Table}
-use Rattle.state_model.specs.View.{memory, entries_of, state_map}
+use Rattle.state_model.specs.View.{memory, changes_of, state_map, in_memory}
 use Rattle.state_model.specs.Taken.{taken}
-use Rattle.state_model.specs.Merges.{NoRoom, placed, outputs_for}
+use Rattle.state_model.specs.Merges.{NoRoom, placed}
 use Rattle.state_model.specs.Causes.{Why}
-use Rattle.state_model.specs.Changes.{is_long, with_tables, flush_placed, flushed_with, flushed, logged, logged_then, written, compact_placed, live_entries, compacted_with, compacted}
+use Rattle.state_model.specs.Changes.{is_long, with_tables, flush_placed, flushed_with, flushed, logged, logged_then, written, compact_placed, compacted_with, compacted, compacted_outputs}
 use Rattle.line_model.specs.Limits.{key_limit, value_limit, bound_limit, limit_of}
 use Rattle.line_model.specs.Requests.{Request, Put, Del, Get, Seek, Range, Count, Estimate, Explain, Flush, Compact, Quit, Bad, request_of}
 use Rattle.line_model.specs.Replies.{Reply, Done, Value, Missing, At, Pairs, End, Counted, About, Explained, Bye, BadLine, LongKey, LongValue, ManyTables, LastEpoch, Full, Memory, Device, Damaged, text_of, got, found}
@@ -22,8 +22,10 @@ use Rattle.state_model.specs.Play.{tended, reply_then, played}
 use Rattle.state_model.specs.Script.{Ending, ToLast, AtQuit, Turn, Onward, turn_of, Between, EndsOr, AsSaid, Script}
 use Rattle.state_model.specs.PlayLaws.{AnyState, played_text}
 use Rattle.state_model.proofs.Wholes.{merged_is_a_slice}
+use Rattle.range_model.specs.Sources.{Change, Sets, Source}
+use Rattle.state_model.specs.Logs.{recorded, need_of, gap_after}
 
--- ---- an answer goes on, or is the last; no job runs behind it
+-- ---- an answer goes on, or is the last; no job runs after it
 
 abbrev GoesOnOrBye : Reply → Type 0
 GoesOnOrBye reply = (turn_of reply ≡ Onward) ⊎ (reply ≡ Bye)
@@ -59,41 +61,41 @@ flush_placed_calm : (s : State) (done : Result (List Table) NoRoom) → s.job �
 flush_placed_calm s (Ok made) none = with_tables_calm s (made ++ s.tables) none
 flush_placed_calm s (Err refusal) none = refl
 
-flushed_with_calm : (filter_bytes : FilterBytes) (s : State) (entries : List Entry) → s.job ≡ None → CalmResult (flushed_with filter_bytes s entries)
-flushed_with_calm filter_bytes s [] none = none
-flushed_with_calm filter_bytes s (entry ∷ more) none = elim (nat_le max_tables (length s.tables)) as (λ t. CalmResult (cond t (Err ManyTables) (flush_placed s (placed filter_bytes s.settings s.pages (taken s) 0 ((entry ∷ more) ∷ []))))) [
+flushed_with_calm : (filter_bytes : FilterBytes) (s : State) (source : Source) (entries : List Entry) → s.job ≡ None → CalmResult (flushed_with filter_bytes s source entries)
+flushed_with_calm filter_bytes s source [] none = none
+flushed_with_calm filter_bytes s source (entry ∷ more) none = elim (nat_le max_tables (length s.tables)) as (λ t. CalmResult (cond t (Err ManyTables) (flush_placed s (placed filter_bytes s.settings s.pages (taken s) 0 (source ∷ []))))) [
   | true ↦ refl
-  | false ↦ flush_placed_calm s (placed filter_bytes s.settings s.pages (taken s) 0 ((entry ∷ more) ∷ [])) none
+  | false ↦ flush_placed_calm s (placed filter_bytes s.settings s.pages (taken s) 0 (source ∷ [])) none
 ]
 
 flushed_calm : (filter_bytes : FilterBytes) (s : State) → s.job ≡ None → CalmResult (flushed filter_bytes s)
-flushed_calm filter_bytes s none = flushed_with_calm filter_bytes s (memory s) none
+flushed_calm filter_bytes s none = flushed_with_calm filter_bytes s (in_memory s) (memory s) none
 
-logged_then_calm : (entry : Entry) (done : Result State Reply) → CalmResult done → CalmResult (logged_then entry done)
-logged_then_calm entry (Ok s) none = none
-logged_then_calm entry (Err refusal) calm = calm
+logged_then_calm : (change : Change) (done : Result State Reply) → CalmResult done → CalmResult (logged_then change done)
+logged_then_calm change (Ok s) none = none
+logged_then_calm change (Err refusal) calm = calm
 
-short_calm : (filter_bytes : FilterBytes) (s : State) (entry : Entry) → s.job ≡ None → CalmResult (cond (nat_le (need entry) (gap s.log)) (Ok (logged s entry)) (logged_then entry (flushed filter_bytes s)))
-short_calm filter_bytes s entry none = elim (nat_le (need entry) (gap s.log)) as (λ t. CalmResult (cond t (Ok (logged s entry)) (logged_then entry (flushed filter_bytes s)))) [
+short_calm : (filter_bytes : FilterBytes) (s : State) (change : Change) → s.job ≡ None → CalmResult (cond (nat_le (need_of change) (gap_after s.log)) (Ok (logged s change)) (logged_then change (flushed filter_bytes s)))
+short_calm filter_bytes s change none = elim (nat_le (need_of change) (gap_after s.log)) as (λ t. CalmResult (cond t (Ok (logged s change)) (logged_then change (flushed filter_bytes s)))) [
   | true ↦ none
-  | false ↦ logged_then_calm entry (flushed filter_bytes s) (flushed_calm filter_bytes s none)
+  | false ↦ logged_then_calm change (flushed filter_bytes s) (flushed_calm filter_bytes s none)
 ]
 
-written_calm : (filter_bytes : FilterBytes) (s : State) (entry : Entry) → s.job ≡ None → CalmResult (written filter_bytes s entry)
-written_calm filter_bytes s entry none = elim (is_long entry) as (λ long. CalmResult
-    (cond long (flushed filter_bytes (logged s entry)) (cond (nat_le (need entry) (gap s.log)) (Ok (logged s entry)) (logged_then entry (flushed filter_bytes s))))) [
-      | true ↦ flushed_calm filter_bytes (logged s entry) none
-      | false ↦ short_calm filter_bytes s entry none
+written_calm : (filter_bytes : FilterBytes) (s : State) (change : Change) → s.job ≡ None → CalmResult (written filter_bytes s change)
+written_calm filter_bytes s change none = elim (is_long (recorded change)) as (λ long. CalmResult
+    (cond long (flushed filter_bytes (logged s change)) (cond (nat_le (need_of change) (gap_after s.log)) (Ok (logged s change)) (logged_then change (flushed filter_bytes s))))) [
+      | true ↦ flushed_calm filter_bytes (logged s change) none
+      | false ↦ short_calm filter_bytes s change none
     ]
 
 compact_placed_calm : (s : State) (done : Result (List Table) NoRoom) → CalmResult (compact_placed s done)
 compact_placed_calm s (Ok made) = refl
 compact_placed_calm s (Err refusal) = refl
 
-compacted_with_calm : (filter_bytes : FilterBytes) (s : State) (entries : List Entry) → s.job ≡ None → CalmResult (compacted_with filter_bytes s entries)
+compacted_with_calm : (filter_bytes : FilterBytes) (s : State) (changes : List Change) → s.job ≡ None → CalmResult (compacted_with filter_bytes s changes)
 compacted_with_calm filter_bytes s [] none = none
-compacted_with_calm filter_bytes s (entry ∷ more) none =
-    let done = placed filter_bytes s.settings s.pages (taken (without_job s)) 6 (outputs_for s.tables (live_entries s)) in
+compacted_with_calm filter_bytes s (change ∷ more) none =
+    let done = placed filter_bytes s.settings s.pages (taken (without_job s)) 6 (compacted_outputs s) in
     elim (s.epoch == last_epoch) as (λ t. CalmResult (cond t (Err LastEpoch) (compact_placed s done))) [ true ↦ refl | false ↦ compact_placed_calm s done ]
 
 changed_calm : (old : State) (done : Result State Reply) → old.job ≡ None → CalmResult done → Calm (done_or_refused old done)
@@ -115,9 +117,9 @@ found_calm None = refl
 pub answer_is_calm : (filter_bytes : FilterBytes) (s : State) (request : Request) → s.job ≡ None → Calm (answer filter_bytes s request)
 answer_is_calm filter_bytes s (Put key value) none = limit_calm (limit_of (Put key value)) s (answer_within filter_bytes s (Put key value)) none
     (first_calm (key_limit key) (value_limit value) (key_calm key) (value_calm value))
-    (changed_calm s (written filter_bytes s (put_entry key value)) none (written_calm filter_bytes s (put_entry key value) none))
+    (changed_calm s (written filter_bytes s (Sets (put_entry key value))) none (written_calm filter_bytes s (Sets (put_entry key value)) none))
 answer_is_calm filter_bytes s (Del key) none = limit_calm (key_limit key) s (answer_within filter_bytes s (Del key)) none (key_calm key)
-    (changed_calm s (written filter_bytes s (del_entry key)) none (written_calm filter_bytes s (del_entry key) none))
+    (changed_calm s (written filter_bytes s (Sets (del_entry key))) none (written_calm filter_bytes s (Sets (del_entry key)) none))
 answer_is_calm filter_bytes s (Get key) none = limit_calm (key_limit key) s (answer_within filter_bytes s (Get key)) none (key_calm key) (inl (got_calm (get (state_map s) key)), none)
 answer_is_calm filter_bytes s (Seek lo None) none = limit_calm (bound_limit lo) s (answer_within filter_bytes s (Seek lo None)) none (bound_calm lo) (inl (found_calm (seek (state_map s) lo None)), none)
 answer_is_calm filter_bytes s (Seek lo (Some hi)) none = limit_calm (limit_of (Seek lo (Some hi))) s (answer_within filter_bytes s (Seek lo (Some hi))) none
@@ -130,7 +132,7 @@ answer_is_calm filter_bytes s (Estimate lo hi) none = limit_calm (limit_of (Esti
     (first_calm (bound_limit lo) (bound_limit hi) (bound_calm lo) (bound_calm hi)) (inl refl, none)
 answer_is_calm filter_bytes s (Explain key) none = limit_calm (key_limit key) s (answer_within filter_bytes s (Explain key)) none (key_calm key) (inl refl, none)
 answer_is_calm filter_bytes s Flush none = changed_calm s (flushed filter_bytes s) none (flushed_calm filter_bytes s none)
-answer_is_calm filter_bytes s Compact none = changed_calm (without_job s) (compacted filter_bytes s) refl (compacted_with_calm filter_bytes s (entries_of s) none)
+answer_is_calm filter_bytes s Compact none = changed_calm (without_job s) (compacted filter_bytes s) refl (compacted_with_calm filter_bytes s (changes_of s) none)
 answer_is_calm filter_bytes s Quit none = (inr refl, none)
 answer_is_calm filter_bytes s (Bad code) none = (inl refl, none)
 
@@ -155,7 +157,7 @@ tended_between Cause filter_bytes s (Bad code) none = ((refl, refl), none)
 
 -- ---- the script
 
--- a reply that goes on stands before the later ones
+-- a reply that goes on is before the later ones
 behind_onward : (reply : Reply) (later : List Reply × State) (s : State) → turn_of reply ≡ Onward → (reply_then reply later s).0 ≡ reply ∷ later.0
 behind_onward Done later s e = refl
 behind_onward (Value value) later s e = refl

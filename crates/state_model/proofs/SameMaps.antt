@@ -5,9 +5,11 @@ use Rattle.std.proofs.lemmas.Slice.Eq.{bytes_eq-Decides}
 use Rattle.std.specs.Cmp.Lexicographic.{nat_list_cmp_total}
 use Rattle.std.specs.declared.cmp.Ordering.TheVariants.{Less}
 use Rattle.map_model.specs.SortedMap.{Bytes, Map, byte_order, get, Rises}
-use Rattle.entry_model.specs.Entries.{Entry, newest, live, map_of}
+use Rattle.entry_model.specs.Entries.{live}
+use Rattle.range_model.specs.Sources.{Change, last_said}
+use Rattle.range_model.specs.ChangedMaps.{map_of_changes}
+use Rattle.range_model.proofs.ChangedMaps.{changes_rise, map_says}
 use Rattle.map_model.proofs.Maps.{same_key, equal_keys, less_of_greater, by_order}
-use Rattle.entry_model.proofs.Maps.{newest_counts, entries_rise}
 use Rattle.entry_model.proofs.Newest.{above_apart}
 
 abbrev IsBelowFirst : Bytes → Map → Type 0
@@ -65,7 +67,7 @@ one_map (a ∷ more) (b ∷ others) rises_a rises_b says = by_order (λ _. a ∷
     λ i. (same i, value i) ∷ tails i)
     (λ greater. absurd (lesser b a others more rises_a (less_of_greater a.0 b.0 greater) (sym (says b.0))))
 
--- entries that say the same of each key make one map
-pub same_map : (entries others : List Entry) → ((key : Bytes) → live (newest entries key) ≡ live (newest others key)) → map_of entries ≡ map_of others
-same_map entries others says = one_map (map_of entries) (map_of others) (entries_rise [] entries tt) (entries_rise [] others tt)
-    (λ key. newest_counts entries key ∙ says key ∙ sym (newest_counts others key))
+-- changes that say the same of each key make one map
+pub same_map : (changes others : List Change) → ((key : Bytes) → live (last_said changes key) ≡ live (last_said others key)) → map_of_changes changes ≡ map_of_changes others
+same_map changes others says = one_map (map_of_changes changes) (map_of_changes others) (changes_rise [] changes tt) (changes_rise [] others tt)
+    (λ key. map_says changes key ∙ says key ∙ sym (map_says others key))

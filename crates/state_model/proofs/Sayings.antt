@@ -1,10 +1,8 @@
--- What entries in the order of writing, and lists of entries with rising keys, say of a key.
-use Rattle.std.proofs.Common.{◌≡◌, List, [], ◌∷◌, ◌++◌, refl, sym, ap, ◌∙◌, subst, Bool, true, false, cond, map}
+-- What changes in the order of writing, and sources, say of a key.
+use Rattle.std.proofs.Common.{◌≡◌, List, [], ◌∷◌, ◌++◌, refl, sym, ap, ap₂, ◌∙◌, subst, Bool, true, false, cond}
 use Rattle.std.specs.Option.{option_or}
-use Rattle.std.specs.Prelude.{Option, Some, None, bytes_eq, flat_map, reverse, filter}
+use Rattle.std.specs.Prelude.{Option, Some, None, bytes_eq, filter, map}
 use Rattle.std.specs.List.{AllByRecursion}
-use Rattle.std.proofs.lemmas.List.{append-nil, reverse-append}
-use Rattle.std.proofs.lemmas.Grind.{flat_map-append}
 use Rattle.std.proofs.lemmas.Slice.Eq.{bytes_eq-Decides}
 use Rattle.std.proofs.lemmas.Bool.{false≢true}
 use Rattle.std.specs.Ordering.{is_lt}
@@ -16,9 +14,15 @@ use Rattle.entry_model.specs.Newest.{ComesBehind, KeysRise, newest_entries, look
 use Rattle.entry_model.proofs.Newest.{none_above, above_lower, rises_after, lookup_newest}
 use Rattle.key_base.specs.ByteOrder.{is_before}
 use Rattle.block_model.specs.Order.{Follow}
+use Rattle.range_model.specs.Ranges.{covers}
+use Rattle.range_model.specs.Sources.{Change, IsSource, Source, alone, changes_in, cleared, empty_source, first_said, last_said, says, source_of}
+use Rattle.range_model.specs.Hiding.{oldest_changes}
+use Rattle.range_model.proofs.Sources.{source_says}
+use Rattle.range_model.proofs.Sound.{changes_say, said_both, source_is}
+use Rattle.range_model.proofs.ChangedMaps.{empty_is}
 use Rattle.table_model.specs.Tables.{Table}
-use Rattle.state_model.specs.View.{first_found, oldest_first}
 use Rattle.state_model.specs.Merges.{has_value}
+use Rattle.state_model.specs.View.{sources}
 
 pub or_none : (found : Option (Option Bytes)) → option_or found None ≡ found
 or_none None = refl
@@ -52,31 +56,49 @@ newest_entries_rise entries = rises_after [] entries tt
 pub newest_again : (entries : List Entry) (key : Bytes) → newest (newest_entries entries) key ≡ newest entries key
 newest_again entries key = newest_of_rising (newest_entries entries) key (newest_entries_rise entries) ∙ lookup_newest entries key
 
+-- ---- what a source says
+
+-- a range gives no value
+pub live_says : (s : Source) (key : Bytes) → live (says s key) ≡ live (lookup s.entries key)
+live_says s key = by_found (lookup s.entries key) (covers s.ranges key)
+  where
+    by_found : (found : Option (Option Bytes)) (covered : Bool) → live (option_or found (cleared covered)) ≡ live found
+    by_found (Some value) covered = refl
+    by_found None true = refl
+    by_found None false = refl
+
+-- entries alone say what they say
+pub says_alone : (entries : List Entry) (key : Bytes) → says (alone entries) key ≡ lookup entries key
+says_alone entries key = or_none (lookup entries key)
+
+pub alone_is : (entries : List Entry) → KeysRise entries → IsSource (alone entries)
+alone_is entries rises = record { rises = rises; ranges = tt; apart = tt; begin = tt }
+
+-- ---- changes in the order of writing
+
+pub source_sound : (changes : List Change) → IsSource (source_of changes)
+source_sound changes = source_is empty_source changes empty_is
+
+-- the changes of the source that they make say what all of them say
+pub said_again : (changes : List Change) (key : Bytes) → last_said (changes_in (source_of changes)) key ≡ last_said changes key
+said_again changes key = changes_say (source_of changes) key (source_sound changes) ∙ source_says changes key
+
 -- ---- lists of entries, the newest first
 
 abbrev pub AllRise : List (List Entry) → Type 0
 AllRise lists = AllByRecursion KeysRise lists
 
--- their entries, the oldest first
-abbrev pub backwards : List (List Entry) → List Entry
-backwards [] = []
-backwards (entries ∷ older) = backwards older ++ entries
-
-pub newest_backwards : (lists : List (List Entry)) (key : Bytes) → AllRise lists → newest (backwards lists) key ≡ first_found lists key
-newest_backwards [] key rise = refl
-newest_backwards (entries ∷ older) key rise = newest-append (backwards older) entries key
-    ∙ ap (λ (o : Option (Option Bytes)). option_or o (newest (backwards older) key)) (newest_of_rising entries key rise.0)
-    ∙ ap (option_or (lookup entries key)) (newest_backwards older key rise.1)
-
 abbrev pub lists_of : List Table → List (List Entry)
 lists_of tables = map (λ (t : Table). t.entries) tables
 
-pub oldest_first-backwards : (tables : List Table) → oldest_first tables ≡ backwards (lists_of tables)
-oldest_first-backwards [] = refl
-oldest_first-backwards (t ∷ older) = ap (flat_map (λ (u : Table). u.entries)) (reverse-append (t ∷ []) older)
-    ∙ flat_map-append (λ (u : Table). u.entries) (reverse older) (t ∷ [])
-    ∙ ap (λ (l : List Entry). oldest_first older ++ l) (append-nil t.entries)
-    ∙ ap (λ (l : List Entry). l ++ t.entries) (oldest_first-backwards older)
+-- ---- sources, the newest first
+
+abbrev pub AllSources : List Source → Type 0
+AllSources sources = AllByRecursion IsSource sources
+
+pub said_backwards : (sources : List Source) (key : Bytes) → AllSources sources → last_said (oldest_changes sources) key ≡ first_said sources key
+said_backwards [] key are = refl
+said_backwards (s ∷ older) key are = said_both (oldest_changes older) (changes_in s) key ∙ ap₂ option_or (changes_say s key are.0) (said_backwards older key are.1)
 
 -- ---- entries with rising keys
 

@@ -3,10 +3,9 @@ use Rattle.std.proofs.Common.{◌≡◌, ◌≢◌, inl, inr, ℕ, ◌≤◌, Li
 use Rattle.std.specs.Prelude.{Option, Some, None, Result, Ok, Err, nat_lt, ◌==◌, ◌-◌, take}
 use Rattle.std.proofs.lemmas.Bool.{eqb-true, eqb-false}
 use Rattle.std.proofs.lemmas.List.{append-nil, length-append, length-map}
-use Rattle.entry_model.specs.Entries.{Entry}
 use Rattle.key_base.specs.Limits.{last_epoch}
 use Rattle.state_model.specs.State.{State, Job, without_job}
-use Rattle.table_model.specs.Tables.{FilterBytes, Table}
+use Rattle.table_model.specs.Tables.{FilterBytes, Table, as_source}
 use Rattle.state_model.specs.Taken.{taken}
 use Rattle.state_model.specs.Merges.{NoRoom, Plan, choose}
 use Rattle.line_model.specs.Replies.{LastEpoch, Full}
@@ -15,6 +14,7 @@ use Rattle.state_model.specs.Script.{Onward, turn_of_slice}
 use Rattle.state_model.specs.Play.{job_of, finished, output_written, went_on, went_on_by, with_next, sliced_by, sliced}
 use Rattle.state_model.specs.PlayLaws.{Never}
 use Rattle.state_model.proofs.Outputs.{placed_lists}
+use Rattle.range_model.specs.Sources.{Source}
 
 abbrev Slice : FilterBytes → State → State → Type 0
 Slice filter_bytes s after = (t : Tended) × Tend Never filter_bytes s t after × (Onward ≡ turn_of_slice t)
@@ -38,7 +38,7 @@ install_slice filter_bytes s job later runs goes done =
     ] refl
 
 -- a job that goes on to another one, of which something is left or nothing
-left_slice : (filter_bytes : FilterBytes) (s : State) (job later : Job) (left : List (List Entry)) → Runs s job → Progresses filter_bytes s job later → later ≢ job → later.to_read ≡ 0
+left_slice : (filter_bytes : FilterBytes) (s : State) (job later : Job) (left : List Source) → Runs s job → Progresses filter_bytes s job later → later ≢ job → later.to_read ≡ 0
     → outstanding s.tables later ≡ left → Slice filter_bytes s (went_on_by s later left)
 left_slice filter_bytes s job later [] runs goes other read none = install_slice filter_bytes s job later runs goes (record { all_read = read; all_written = none })
 left_slice filter_bytes s job later (output ∷ more) runs goes other read left =
@@ -63,18 +63,18 @@ read_slice filter_bytes blocks s job runs some left =
 longer : (written made : List Table) → length made ≡ 1 → written ++ made ≡ written → ⊥
 longer written made one same = let e = ap (λ (l : List Table). length l) same in absurd (omega (arith, length-append written made, one, e))
 
-output_slice : (filter_bytes : FilterBytes) (s : State) (job : Job) (output : List Entry) (more : List (List Entry)) (done : Result (List Table) NoRoom) → Runs s job
+output_slice : (filter_bytes : FilterBytes) (s : State) (job : Job) (output : Source) (more : List Source) (done : Result (List Table) NoRoom) → Runs s job
     → outstanding s.tables job ≡ output ∷ more → next_placed filter_bytes s job 1 ≡ done → Slice filter_bytes s (output_written s job done)
 output_slice filter_bytes s job output more (Ok made) runs left e =
     let later = finished job made in
     let lists = placed_lists filter_bytes s (taken (with_job s job)) job.output (take 1 (outstanding s.tables job)) made e ∙ ap (take 1) left in
-    let one : length made ≡ 1 = sym (length-map made (λ (t : Table). t.entries)) ∙ ap (λ (l : List (List Entry)). length l) lists in
+    let one : length made ≡ 1 = sym (length-map made as_source) ∙ ap (λ (l : List Source). length l) lists in
     let goes : Progresses filter_bytes s job later = record { inputs = refl; output = refl; to_read = omega arith; more = 1; made = made; placed_so = e; written = refl } in
     on_slice filter_bytes s job later runs goes (λ same. longer job.written made one (ap (λ (j : Job). j.written) same))
 output_slice filter_bytes s job output more (Err refusal) runs left e =
     (Refused (Full refusal.need refusal.gap), no_room job job refusal runs (goes_to filter_bytes s job job.to_read (omega arith)) e, refl)
 
-next_slice : (filter_bytes : FilterBytes) (s : State) (job : Job) (outputs : List (List Entry)) → Runs s job → job.to_read ≡ 0 → outstanding s.tables job ≡ outputs
+next_slice : (filter_bytes : FilterBytes) (s : State) (job : Job) (outputs : List Source) → Runs s job → job.to_read ≡ 0 → outstanding s.tables job ≡ outputs
     → Slice filter_bytes s (with_next filter_bytes s job outputs)
 next_slice filter_bytes s job [] runs read left =
     install_slice filter_bytes s job job runs (goes_to filter_bytes s job job.to_read (omega arith)) (record { all_read = read; all_written = left })

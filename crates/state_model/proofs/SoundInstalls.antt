@@ -1,37 +1,36 @@
 -- A job that is installed leaves a sound state, and so does whatever else a slice is answered.
 use Rattle.std.proofs.Common.{◌≡◌, ◌≢◌, ◌⊎◌, inl, inr, ℕ, ◌≤◌, ◌<◌, ◌+◌, List, [], ◌∷◌, ◌++◌, length, refl, sym, ap, ◌∙◌, subst, Bool, true, false, cond, arith}
-use Rattle.std.specs.Prelude.{Some, nat_le, nat_lt, not, ◌==◌, ◌-◌, filter, fold, take, drop}
+use Rattle.std.specs.Prelude.{Some, nat_le, nat_lt, not, ◌==◌, filter, fold, take, drop}
 use Rattle.std.specs.List.{AllByRecursion, list_any}
 use Rattle.std.proofs.lemmas.List.{append_assoc, append-nil, length-append, length-map}
 use Rattle.block_model.proofs.Bounds.{weaker}
-use Rattle.entry_model.specs.Entries.{Entry, IsEntry}
 use Rattle.key_base.specs.Limits.{last_epoch}
-use Rattle.key_base.specs.ByteOrder.{IsBefore}
-use Rattle.entry_model.specs.Newest.{KeysRise}
+use Rattle.map_model.specs.SortedMap.{Bytes}
+use Rattle.range_model.specs.Sources.{IsSource, Source, first_said}
+use Rattle.range_model.specs.Laws.{LieApart}
 use Rattle.state_model.specs.State.{State, Job}
-use Rattle.table_model.specs.Tables.{FilterBytes, Table}
-use Rattle.state_model.specs.View.{oldest_first, state_map}
+use Rattle.table_model.specs.Tables.{FilterBytes, Table, as_source}
+use Rattle.state_model.specs.View.{state_map}
 use Rattle.state_model.specs.Taken.{taken}
-use Rattle.state_model.specs.Merges.{Plan, plan_of, on_level, overlaps, least_of, greatest_of, is_over, first_over, choose, is_deepest, lasting, newest_of, planned, least_key, greatest_key}
+use Rattle.state_model.specs.Merges.{Plan, plan_of, on_level, meets, is_over, first_over, choose, cut_for, is_deepest, lasting_of, merged_of, planned}
 use Rattle.state_model.specs.Tends.{with_job, outstanding, installed, inserted, without, Tended, Tend, idle, works, installs, last_epoch_reached, no_room, no_memory, read_failed, damage_met, write_failed}
 use Rattle.extent_model.specs.Extents.{AreApart}
 use Rattle.state_model.specs.Sound.{IsSound, IsSoundTable, StandsBefore, IsJob, plan_of_job}
 use Rattle.state_model.specs.SoundLaws.{Ever}
-use Rattle.state_model.proofs.Sayings.{newest_entries_rise}
-use Rattle.state_model.proofs.Outputs.{joined, outputs_joined, parts_rise}
-use Rattle.state_model.proofs.Merged.{merge_some, outputs_few}
-use Rattle.state_model.proofs.Levels.{AllAt, deeper}
+use Rattle.state_model.proofs.Outputs.{cut_few}
+use Rattle.state_model.proofs.Merged.{inputs_say, lasting_none, merge_apart, planned_say}
+use Rattle.state_model.proofs.Levels.{AllAt, deeper, says}
 use Rattle.extent_model.proofs.Lists.{Pairs, pairs_of, both, all_kept, all_pass, all_pairs}
 use Rattle.state_model.proofs.Parts.{pairs_kept, above, parted, levels_of}
-use Rattle.state_model.proofs.Disjoint.{Rise}
+use Rattle.state_model.proofs.Disjoint.{IsSome, Rise, rising_order, some_or_none}
 use Rattle.state_model.proofs.Taken.{all_parts, all_join}
-use Rattle.state_model.proofs.Installs.{chosen, five, left, on_level_at, state_apart, made_lists, lasting_rises, lt_of, over_of, fold_all, install_keeps}
+use Rattle.state_model.proofs.Installs.{chosen, five, left, on_level_at, state_apart, made_lists, lt_of, over_of, fold_all, install_keeps}
 use Rattle.state_model.proofs.Places.{Stand, OnDevice, Clear, clear_mutual, laid_tables}
 use Rattle.state_model.proofs.Inserted.{Fit, Either, Separate, SeparateOnLevel, fold_order, fold_length, all_fold, pairs_fold, all_sift, pairs_sift, pairs_parted, parted_length}
-use Rattle.state_model.proofs.Hulls.{Joins, Beside, stands_beside, separate_below, separate_above, rises_of, fit_of}
+use Rattle.state_model.proofs.Hulls.{Joins, Beside, SaysNoMore, each_says, fit_of, separate, source_in, stands_beside}
 use Rattle.state_model.proofs.SoundChanges.{next_epoch}
 use Rattle.state_model.proofs.SoundJobs.{sound_stand, drop_sound, works_sound}
-use Rattle.state_model.proofs.SoundOutputs.{planned_all, made_have, made_sound, rising_order}
+use Rattle.state_model.proofs.SoundOutputs.{made_sound, planned_outputs}
 
 -- ---- the level of the outputs
 
@@ -50,17 +49,13 @@ chosen_deep tables plan e = elim (nat_le 4 (length (on_level 0 tables))) as (λ 
 
 -- ---- how many outputs
 
-lasting_none : (is_last : Bool) → lasting is_last [] ≡ []
-lasting_none true = refl
-lasting_none false = refl
-
 -- no more than the inputs, also where there is none
 planned_few : (tables : List Table) (plan : Plan) → length (planned tables plan) ≤ length plan.inputs
 planned_few tables plan = by_inputs plan.inputs plan.output
   where
     by_inputs : (inputs : List Table) (output : ℕ) → length (planned tables (record { inputs = inputs; output = output })) ≤ length inputs
-    by_inputs [] output = elim (is_deepest tables output) as (λ b. length (Rattle.state_model.specs.Merges.outputs_for [] (lasting b (newest_of []))) ≤ 0) [ true ↦ omega arith | false ↦ omega arith ]
-    by_inputs (t ∷ more) output = let few = outputs_few (length (t ∷ more) - 1) (lasting (is_deepest tables output) (newest_of (t ∷ more))) in omega arith
+    by_inputs [] output = elim (is_deepest tables output) as (λ b. length (cut_for [] (lasting_of b (merged_of []))) ≤ 0) [ true ↦ omega arith | false ↦ omega arith ]
+    by_inputs (t ∷ more) output = let few = cut_few (t ∷ more) (lasting_of (is_deepest tables output) (merged_of (t ∷ more))) in omega arith
 
 -- ---- the tables that stay, and the new ones
 
@@ -90,6 +85,34 @@ own_separate : (level : ℕ) (made : List Table) → 1 ≤ level → AllAt level
 own_separate level [] some at order = tt
 own_separate level (w ∷ more) some at order = (own_level level w more some at.0 order.0, own_separate level more some at.1 order.1)
 
+-- ---- the inputs and what is made of them
+
+inputs_sound : (filter_bytes : FilterBytes) (s : State) (job : Job) → IsSound filter_bytes s → IsJob filter_bytes s.settings s.tables job → AllByRecursion IsSoundTable job.inputs
+inputs_sound filter_bytes s job sound is =
+    let order = pairs_of StandsBefore s.tables sound.order in
+    let rise : Rise s.tables = weaker IsSoundTable (λ (t : Table). IsSource (as_source t)) source_in s.tables sound.tables in
+    let c = chosen s.tables is.flushes (plan_of_job job) [] is.few is.chosen rise order in
+    let sound_0 = all_parts IsSoundTable c.shape.front (c.tables ++ c.shape.back) (subst (AllByRecursion IsSoundTable) c.shape.parts (all_kept IsSoundTable (λ (t : Table). t.level == c.level) s.tables sound.tables)) in
+    let sound_i = (all_parts IsSoundTable c.tables c.shape.back sound_0.1).0 in
+    let m = meets c.tables in
+    let x = on_level (c.level + 1) s.tables in
+    let sound_j = all_kept IsSoundTable m x (all_kept IsSoundTable (λ (t : Table). t.level == (c.level + 1)) s.tables sound.tables) in
+    subst (AllByRecursion IsSoundTable) (sym c.inputs) (all_join IsSoundTable c.tables (filter m x) sound_i sound_j)
+
+-- what the outputs say something of, the inputs do
+planned_no_more : (tables : List Table) (plan : Plan) (key : Bytes) → AllByRecursion IsSoundTable plan.inputs → IsSome (first_said (planned tables plan) key) → IsSome (says plan.inputs key)
+planned_no_more tables plan key sound said = elim (some_or_none (says plan.inputs key)) [
+  | inr some ↦ some
+  | inl none ↦ absurd (subst IsSome (planned_say tables plan key ∙ lasting_none (is_deepest tables plan.output) (merged_of plan.inputs) key (inputs_say plan.inputs key sound ∙ none)) said)
+]
+
+-- no table that a job has written says more than its inputs
+written_no_more : (filter_bytes : FilterBytes) (s : State) (job : Job) → AllByRecursion IsSoundTable job.inputs → IsJob filter_bytes s.settings s.tables job → outstanding s.tables job ≡ [] → AllByRecursion (SaysNoMore job.inputs) job.written
+written_no_more filter_bytes s job sound is done =
+    let plan = plan_of_job job in
+    let made = made_lists filter_bytes s job.output (planned s.tables plan) job.written is.written done in
+    weaker (SaysNoMore job.written) (SaysNoMore job.inputs) (λ w so key said. planned_no_more s.tables plan key sound (subst (λ (l : List Source). IsSome (first_said l key)) made.0 (so key said))) job.written (each_says job.written)
+
 -- ---- the install
 
 install_order : (filter_bytes : FilterBytes) (s : State) (job : Job) → IsSound filter_bytes s → IsJob filter_bytes s.settings s.tables job → outstanding s.tables job ≡ [] → AllByRecursion IsSoundTable job.written
@@ -98,13 +121,13 @@ install_order filter_bytes s job sound is done new =
     let plan = plan_of_job job in
     let all = s.tables in
     let order = pairs_of StandsBefore all sound.order in
-    let rise : Rise all = weaker IsSoundTable (λ (t : Table). KeysRise t.entries) rises_of all sound.tables in
+    let rise : Rise all = weaker IsSoundTable (λ (t : Table). IsSource (as_source t)) source_in all sound.tables in
     let c = chosen s.tables is.flushes plan [] is.few is.chosen rise order in
     let a = c.level in
     let i = c.tables in
     let p = c.shape.front in
     let k = c.shape.back in
-    let m = overlaps (least_of i) (greatest_of i) in
+    let m = meets i in
     let b = above a all in
     let x0 = on_level a all in
     let x = on_level (a + 1) all in
@@ -117,10 +140,7 @@ install_order filter_bytes s job sound is done new =
     let out = λ (t : Table). not (list_any (λ (u : Table). u.first_page == t.first_page) job.inputs) in
     let made = made_lists filter_bytes s job.output (planned s.tables plan) job.written is.written done in
     let at : AllAt (a + 1) job.written = subst (λ (l : ℕ). AllAt l job.written) c.output made.1 in
-    let some_made = weaker IsSoundTable (λ (t : Table). 1 ≤ length t.entries) (λ t st. st.entries.some) job.written new in
-    let lasts = is_deepest s.tables job.output in
-    let whole = ap joined made.0 ∙ outputs_joined (length job.inputs - 1) (lasting lasts (newest_of job.inputs)) in
-    let own = rising_order (a + 1) job.written at some_made (subst KeysRise (sym whole) (lasting_rises lasts (newest_of job.inputs) (newest_entries_rise (oldest_first job.inputs)))) in
+    let own = rising_order (a + 1) job.written at (subst LieApart (sym made.0) (merge_apart s.tables plan)) in
     let deep : 1 ≤ a + 1 = omega arith in
     let b_low = weaker (λ (t : Table). nat_lt t.level a ≡ true) (λ (t : Table). t.level < a) (λ t e. lt_of t.level a e) b (all_pass (λ (t : Table). nat_lt t.level a) all) in
     let at_0 = all_parts (λ (t : Table). t.level ≡ a) p (i ++ k) (subst (AllAt a) c.shape.parts (on_level_at a all)) in
@@ -129,20 +149,20 @@ install_order filter_bytes s job sound is done new =
     let x_at = on_level_at (a + 1) all in
     let d_high = weaker (λ (t : Table). not (nat_le t.level (a + 1)) ≡ true) (λ (t : Table). a + 1 < t.level) (λ t e. over_of t.level (a + 1) e) d (all_pass (λ (t : Table). not (nat_le t.level (a + 1))) all) in
     let sound_0 = all_parts IsSoundTable p (i ++ k) (subst (AllByRecursion IsSoundTable) c.shape.parts (all_kept IsSoundTable (λ (t : Table). t.level == a) all sound.tables)) in
-    let sound_i = (all_parts IsSoundTable i k sound_0.1).0 in
+    let rise_i = weaker IsSoundTable (λ (t : Table). IsSource (as_source t)) source_in i (all_parts IsSoundTable i k sound_0.1).0 in
     let sound_x = all_kept IsSoundTable (λ (t : Table). t.level == (a + 1)) all sound.tables in
-    let lo = least_of i in
-    let hi = greatest_of i in
-    let joins : AllByRecursion (Joins (a + 1) lo hi) j = three (λ (t : Table). m t ≡ true) (λ (t : Table). t.level ≡ a + 1) IsSoundTable j
+    let joins : AllByRecursion (Joins (a + 1) i) j = three (λ (t : Table). m t ≡ true) (λ (t : Table). t.level ≡ a + 1) IsSoundTable j
     (all_pass m x) (all_kept (λ (t : Table). t.level ≡ a + 1) m x x_at) (all_kept IsSoundTable m x sound_x) in
+    let sound_in = inputs_sound filter_bytes s job sound is in
+    let no_more = written_no_more filter_bytes s job sound_in is done in
     let not_m = λ (t : Table). not (m t) in
     let n_facts = both (λ (t : Table). not_m t ≡ true) (λ (t : Table). (t.level ≡ a + 1) × IsSoundTable t × AllByRecursion (Either StandsBefore t) j) n (all_pass not_m x)
     (three (λ (t : Table). t.level ≡ a + 1) IsSoundTable (λ (t : Table). AllByRecursion (Either StandsBefore t) j) n
     (all_kept (λ (t : Table). t.level ≡ a + 1) not_m x x_at) (all_kept IsSoundTable not_m x sound_x)
     (pairs_parted StandsBefore m x (pairs_kept StandsBefore (λ (t : Table). t.level == (a + 1)) all order))) in
     let one_apart = λ (t : Table) (facts : (not_m t ≡ true) × ((t.level ≡ a + 1) × IsSoundTable t × AllByRecursion (Either StandsBefore t) j)).
-    on_level_apart job.written t (separate_all filter_bytes s job t is done some_made
-    (subst (λ (l : List Table). Beside l t) (sym c.inputs) (stands_beside (a + 1) i j t deep facts.1.0 (fit_of t facts.1.1) (off_of (m t) facts.0) sound_i joins facts.1.2))) in
+    on_level_apart job.written t (separate_all job.inputs job.written t new no_more
+    (subst (λ (l : List Table). Beside l t) (sym c.inputs) (stands_beside (a + 1) i j t deep facts.1.0 (fit_of t facts.1.1) (off_of (m t) facts.0) rise_i joins facts.1.2))) in
     let New : Table → Type 0 = λ (t : Table). AllByRecursion (λ (w : Table). SeparateOnLevel w t) job.written in
     let n_new = weaker (λ (t : Table). (not_m t ≡ true) × ((t.level ≡ a + 1) × IsSoundTable t × AllByRecursion (Either StandsBefore t) j)) New one_apart n n_facts in
     let b_new = weaker (λ (t : Table). t.level < a) New (λ t l. off_level job.written (a + 1) t at (inl (omega (arith, l)))) b b_low in
@@ -168,14 +188,9 @@ install_order filter_bytes s job sound is done new =
     on_level_apart [] t all = tt
     on_level_apart (w ∷ more) t all = (λ _. all.0, on_level_apart more t all.1)
 
-    separate_all : (filter_bytes : FilterBytes) (s : State) (job : Job) (t : Table) → IsJob filter_bytes s.settings s.tables job → outstanding s.tables job ≡ [] → AllByRecursion (λ (w : Table). 1 ≤ length w.entries) job.written
-        → Beside job.inputs t → AllByRecursion (λ (w : Table). Separate w t) job.written
-    separate_all filter_bytes s job t is done some (inl below) =
-        let P = λ (e : Entry). IsBefore (greatest_key t) e.key in
-        separate_below t job.written some (made_have (λ (l : List Entry). AllByRecursion P l) filter_bytes s.settings job.output (planned s.tables (plan_of_job job)) job.written is.written (planned_all P s.tables (plan_of_job job) below))
-    separate_all filter_bytes s job t is done some (inr over) =
-        let P = λ (e : Entry). IsBefore e.key (least_key t) in
-        separate_above t job.written some (made_have (λ (l : List Entry). AllByRecursion P l) filter_bytes s.settings job.output (planned s.tables (plan_of_job job)) job.written is.written (planned_all P s.tables (plan_of_job job) over))
+    separate_all : (inputs made : List Table) (t : Table) → AllByRecursion IsSoundTable made → AllByRecursion (SaysNoMore inputs) made → Beside inputs t → AllByRecursion (λ (w : Table). Separate w t) made
+    separate_all inputs [] t sound no_more beside = tt
+    separate_all inputs (w ∷ more) t sound no_more beside = (separate inputs t w sound.0 no_more.0 beside, separate_all inputs more t sound.1 no_more.1 beside)
 
     counted : (all b p i k x d : List Table) (m : Table → Bool) (inputs remain : List Table) → all ≡ b ++ ((p ++ (i ++ k)) ++ (x ++ d)) → inputs ≡ i ++ filter m x
         → remain ≡ five b p k (filter (λ (t : Table). not (m t)) x) d → length remain + length inputs ≡ length all
@@ -200,28 +215,12 @@ install_order filter_bytes s job sound is done new =
           length-append n d,
         )
 
-written_sound : (filter_bytes : FilterBytes) (s : State) (job : Job) → IsSound filter_bytes s → IsJob filter_bytes s.settings s.tables job → outstanding s.tables job ≡ [] → AllByRecursion IsSoundTable job.inputs
+written_sound : (filter_bytes : FilterBytes) (s : State) (job : Job) → IsSound filter_bytes s → IsJob filter_bytes s.settings s.tables job → AllByRecursion IsSoundTable job.inputs
     → AllByRecursion (OnDevice s.pages) job.written → AllByRecursion IsSoundTable job.written
-written_sound filter_bytes s job sound is done inputs on =
+written_sound filter_bytes s job sound is inputs on =
     let plan = plan_of_job job in
-    let outputs = planned s.tables plan in
-    let lasts = is_deepest s.tables job.output in
-    let whole = outputs_joined (length job.inputs - 1) (lasting lasts (newest_of job.inputs)) in
-    let rise = parts_rise outputs (subst KeysRise (sym whole) (lasting_rises lasts (newest_of job.inputs) (newest_entries_rise (oldest_first job.inputs)))) in
-    let each = planned_all IsEntry s.tables plan (weaker IsSoundTable (λ (t : Table). AllByRecursion IsEntry t.entries) (λ t st. st.entries.sound.each) job.inputs inputs) in
-    made_sound filter_bytes s.settings job.output s.pages outputs job.written (chosen_deep (drop is.flushes s.tables) plan is.chosen) sound.settings sound.ratio sound.device.1 is.written on each (merge_some s.tables plan) rise
-
-inputs_sound : (filter_bytes : FilterBytes) (s : State) (job : Job) → IsSound filter_bytes s → IsJob filter_bytes s.settings s.tables job → AllByRecursion IsSoundTable job.inputs
-inputs_sound filter_bytes s job sound is =
-    let order = pairs_of StandsBefore s.tables sound.order in
-    let rise : Rise s.tables = weaker IsSoundTable (λ (t : Table). KeysRise t.entries) rises_of s.tables sound.tables in
-    let c = chosen s.tables is.flushes (plan_of_job job) [] is.few is.chosen rise order in
-    let sound_0 = all_parts IsSoundTable c.shape.front (c.tables ++ c.shape.back) (subst (AllByRecursion IsSoundTable) c.shape.parts (all_kept IsSoundTable (λ (t : Table). t.level == c.level) s.tables sound.tables)) in
-    let sound_i = (all_parts IsSoundTable c.tables c.shape.back sound_0.1).0 in
-    let m = overlaps (least_of c.tables) (greatest_of c.tables) in
-    let x = on_level (c.level + 1) s.tables in
-    let sound_j = all_kept IsSoundTable m x (all_kept IsSoundTable (λ (t : Table). t.level == (c.level + 1)) s.tables sound.tables) in
-    subst (AllByRecursion IsSoundTable) (sym c.inputs) (all_join IsSoundTable c.tables (filter m x) sound_i sound_j)
+    made_sound filter_bytes s.settings job.output s.pages (planned s.tables plan) job.written (chosen_deep (drop is.flushes s.tables) plan is.chosen) sound.settings sound.ratio sound.device.1 is.written on
+    (planned_outputs s.tables plan inputs)
 
 pub install_sound : (filter_bytes : FilterBytes) (s : State) (job : Job) → IsSound filter_bytes (with_job s job) → outstanding s.tables job ≡ [] → s.epoch ≢ last_epoch → IsSound filter_bytes (installed s job)
 install_sound filter_bytes s job sound done other =
@@ -232,7 +231,7 @@ install_sound filter_bytes s job sound done other =
     let out = λ (t : Table). not (list_any (λ (u : Table). u.first_page == t.first_page) job.inputs) in
     let first : Stand s.pages (all ++ (job.written ++ s.kept)) = subst (Stand s.pages) (append_assoc all job.written s.kept) stand in
     let on = (all_parts (OnDevice s.pages) job.written s.kept (all_parts (OnDevice s.pages) all (job.written ++ s.kept) first.0).1).0 in
-    let new = written_sound filter_bytes here job sound is done (inputs_sound filter_bytes here job sound is) on in
+    let new = written_sound filter_bytes here job sound is (inputs_sound filter_bytes here job sound is) on in
     let stay = install_order filter_bytes here job sound is done new in
     let tables = fold inserted (without job.inputs all) job.written in
     let moved : Stand s.pages (tables ++ s.kept) = (
@@ -241,7 +240,7 @@ install_sound filter_bytes s job sound done other =
     ) in
     let laid = laid_tables s.pages ((tables ++ []) ++ s.kept) (subst (λ (l : List Table). Stand s.pages (l ++ s.kept)) (sym (append-nil tables)) moved) in
     let made = made_lists filter_bytes here job.output (planned here.tables (plan_of_job job)) job.written is.written done in
-    let many : length job.written ≡ length (planned here.tables (plan_of_job job)) = sym (length-map job.written (λ (t : Table). t.entries)) ∙ ap (λ (l : List (List Entry)). length l) made.0 in
+    let many : length job.written ≡ length (planned here.tables (plan_of_job job)) = sym (length-map job.written as_source) ∙ ap (λ (l : List Source). length l) made.0 in
     record {
       settings = sound.settings;
       ratio = sound.ratio;

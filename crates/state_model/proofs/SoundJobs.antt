@@ -3,7 +3,6 @@ use Rattle.std.proofs.Common.{◌≡◌, inl, inr, ℕ, zero, suc, ◌≤◌, Li
 use Rattle.std.specs.Prelude.{Option, Some, None, Ok, take, drop}
 use Rattle.std.proofs.lemmas.List.{append_assoc}
 use Rattle.filter_api.specs.declared.settings.Settings.{Settings}
-use Rattle.entry_model.specs.Entries.{Entry}
 use Rattle.state_model.specs.State.{State, Job, without_job, written_by}
 use Rattle.table_model.specs.Tables.{FilterBytes, Table}
 use Rattle.state_model.specs.Taken.{taken}
@@ -15,6 +14,7 @@ use Rattle.extent_model.proofs.Lists.{pairs_of, all_pairs}
 use Rattle.state_model.proofs.Merged.{merge_some}
 use Rattle.state_model.proofs.Orders.{all_in, pairs_in, all_out_of, pairs_out_of, all_take, all_drop}
 use Rattle.state_model.proofs.Places.{Stand, OnDevice, Clear, clear_mutual, stand_of, laid_tables, placed_stand}
+use Rattle.range_model.specs.Sources.{Source}
 
 -- what is taken in a sound state
 abbrev pub taken_tables : State → List Table
@@ -66,7 +66,7 @@ job_sound filter_bytes s job sound stand is =
       job = is;
     }
 
-none_made : (filter_bytes : FilterBytes) (settings : Settings) (level : ℕ) (outputs : List (List Entry)) → AreMade filter_bytes settings level outputs []
+none_made : (filter_bytes : FilterBytes) (settings : Settings) (level : ℕ) (outputs : List Source) → AreMade filter_bytes settings level outputs []
 none_made filter_bytes settings level [] = tt
 none_made filter_bytes settings level (output ∷ more) = tt
 
@@ -81,13 +81,13 @@ runs_sound filter_bytes s job sound (inr (plan, none, chosen, same)) = subst (λ
 
 -- ---- the job goes on
 
-made_first : (filter_bytes : FilterBytes) (settings : Settings) (level n : ℕ) (outputs : List (List Entry)) (made : List Table) → AreMade filter_bytes settings level (take n outputs) made → AreMade filter_bytes settings level outputs made
+made_first : (filter_bytes : FilterBytes) (settings : Settings) (level n : ℕ) (outputs : List Source) (made : List Table) → AreMade filter_bytes settings level (take n outputs) made → AreMade filter_bytes settings level outputs made
 made_first filter_bytes settings level n outputs [] are = none_made filter_bytes settings level outputs
 made_first filter_bytes settings level zero outputs (t ∷ more) are = absurd are
 made_first filter_bytes settings level (suc n) [] (t ∷ more) are = absurd are
 made_first filter_bytes settings level (suc n) (output ∷ outputs) (t ∷ more) are = (are.0, made_first filter_bytes settings level n outputs more are.1)
 
-made_join : (filter_bytes : FilterBytes) (settings : Settings) (level : ℕ) (outputs : List (List Entry)) (first later : List Table)
+made_join : (filter_bytes : FilterBytes) (settings : Settings) (level : ℕ) (outputs : List Source) (first later : List Table)
     → AreMade filter_bytes settings level outputs first → AreMade filter_bytes settings level (drop (length first) outputs) later → AreMade filter_bytes settings level outputs (first ++ later)
 made_join filter_bytes settings level outputs [] later are then = then
 made_join filter_bytes settings level [] (t ∷ more) later are then = absurd are
@@ -106,8 +106,8 @@ on_sound filter_bytes s job n to_read made sound less e =
     let later = on_with job to_read made in
     let is : IsJob filter_bytes s.settings s.tables job = sound.job in
     let outputs = planned s.tables (plan_of_job job) in
-    let some = all_take (λ (output : List Entry). 1 ≤ length output) n (outstanding s.tables job)
-    (all_drop (λ (output : List Entry). 1 ≤ length output) (length job.written) outputs (merge_some s.tables (plan_of_job job))) in
+    let some = all_take (λ (output : Source). 1 ≤ length output.entries) n (outstanding s.tables job)
+    (all_drop (λ (output : Source). 1 ≤ length output.entries) (length job.written) outputs (merge_some s.tables (plan_of_job job))) in
     let put = placed_stand filter_bytes s.settings s.pages (taken_tables (with_job s job)) job.output (take n (outstanding s.tables job)) made some (sound_stand filter_bytes (with_job s job) sound) e in
     let moved : Stand s.pages (((s.tables ++ job.written) ++ made) ++ s.kept) =
     (all_in (OnDevice s.pages) made (s.tables ++ job.written) s.kept put.0.0, pairs_in Clear clear_mutual made (s.tables ++ job.written) s.kept put.0.1) in

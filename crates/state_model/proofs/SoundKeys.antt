@@ -5,7 +5,7 @@ use Rattle.std.specs.Ordering.{is_lt}
 use Rattle.std.proofs.lemmas.List.{length-map}
 use Rattle.std.proofs.lemmas.List.Elements.{All-from_recursion}
 use Rattle.block_model.proofs.Bounds.{weaker}
-use Rattle.entry_model.specs.Entries.{IsEntry, Entry, filled, keys_of}
+use Rattle.entry_model.specs.Entries.{IsEntry, Entry, keys_of}
 use Rattle.extent_model.specs.Extents.{Extent, IsOnDevice}
 use Rattle.extent_model.proofs.Lists.{Pairs, all_pairs}
 use Rattle.filter_model.specs.Keys.{IsKey, IsKeyList}
@@ -19,6 +19,7 @@ use Rattle.state_model.specs.Taken.{extent_of}
 use Rattle.state_model.specs.Sound.{IsSoundTable, IsSound}
 use Rattle.state_model.proofs.Hulls.{rises_of}
 use Rattle.state_model.proofs.Orders.{all_to_map, pairs_to_map}
+use Rattle.state_model.specs.Logs.{filled_by}
 
 key_of_entry : (e : Entry) → IsEntry e → IsKey e.key
 key_of_entry e is = record { bytes = is.key_bytes; filled = is.some_key; short = is.short_key }
@@ -42,7 +43,7 @@ key_list t is =
 pub too_many : (filter_bytes : FilterBytes) (s : State) → max_tables < length s.tables → IsSound filter_bytes s → ⊥
 too_many filter_bytes s many sound = let few : length s.tables ≤ max_tables = sound.few in absurd (omega (arith, many, few))
 
-pub full_log : (filter_bytes : FilterBytes) (s : State) → log_bytes ≤ filled s.log → IsSound filter_bytes s → ⊥
+pub full_log : (filter_bytes : FilterBytes) (s : State) → log_bytes ≤ filled_by s.log → IsSound filter_bytes s → ⊥
 full_log filter_bytes s full sound = absurd (omega (arith, full, sound.log_fits))
 
 at_one : (P : Extent → Type 0) (before more written kept : List Table) (t : Table) → AllByRecursion P (map extent_of ((before ++ (t ∷ more)) ++ written ++ kept))

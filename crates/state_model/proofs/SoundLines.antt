@@ -22,6 +22,7 @@ use Rattle.state_model.specs.SoundLaws.{AsksOfBytes, Ever}
 use Rattle.state_model.proofs.SoundChanges.{IfSound, flushed_done, written_done}
 use Rattle.state_model.proofs.SoundCompaction.{compacted_done}
 use Rattle.state_model.proofs.SoundJobs.{drop_sound}
+use Rattle.range_model.specs.Sources.{Sets}
 
 -- ---- within the limits
 
@@ -58,8 +59,8 @@ changed_sound filter_bytes old (Ok t) sound new = new
 changed_sound filter_bytes old (Err refusal) sound new = sound
 
 within_sound : (filter_bytes : FilterBytes) (s : State) (request : Request) → IsSound filter_bytes s → AsksOfBytes request → limit_of request ≡ None → IsSound filter_bytes (answer_within filter_bytes s request).1
-within_sound filter_bytes s (Put key value) sound asks e = changed_sound filter_bytes s (written filter_bytes s (put_entry key value)) sound (written_done filter_bytes s (put_entry key value) sound (put_within key value e asks.0 asks.1))
-within_sound filter_bytes s (Del key) sound asks e = changed_sound filter_bytes s (written filter_bytes s (del_entry key)) sound (written_done filter_bytes s (del_entry key) sound (del_within key e asks))
+within_sound filter_bytes s (Put key value) sound asks e = changed_sound filter_bytes s (written filter_bytes s (Sets (put_entry key value))) sound (written_done filter_bytes s (Sets (put_entry key value)) sound (put_within key value e asks.0 asks.1))
+within_sound filter_bytes s (Del key) sound asks e = changed_sound filter_bytes s (written filter_bytes s (Sets (del_entry key))) sound (written_done filter_bytes s (Sets (del_entry key)) sound (del_within key e asks))
 within_sound filter_bytes s Flush sound asks e = changed_sound filter_bytes s (flushed filter_bytes s) sound (flushed_done filter_bytes s sound)
 within_sound filter_bytes s Compact sound asks e = changed_sound filter_bytes (without_job s) (compacted filter_bytes s) (drop_sound filter_bytes s sound) (compacted_done filter_bytes s sound)
 within_sound filter_bytes s (Get key) sound asks e = sound

@@ -5,7 +5,7 @@ use Rattle.state_model.specs.State.{State}
 use Rattle.table_model.specs.Tables.{FilterBytes}
 use Rattle.line_model.specs.Requests.{Request, Put, Del, Get, Seek, Range, Count, Estimate, Explain, Flush, Compact, Quit, Bad, request_of}
 use Rattle.line_model.specs.Replies.{text_of}
-use Rattle.state_model.specs.Script.{Ending, AtDevice, AtDamage, ToLast, AtQuit, Turn, Onward, Over, turn_of, Between, AsSaid, EndsOr, Script, WentOn, Answers, nothing, answered}
+use Rattle.state_model.specs.Script.{Ending, AtDevice, AtDamage, ToLast, AtQuit, Turn, Onward, Over, turn_of, Between, AsSaid, EndsOr, Script, AnsweredLines, Answers, nothing, answered}
 use Rattle.state_model.specs.Sound.{IsSound}
 use Rattle.state_model.specs.SoundLaws.{WithSound}
 use Rattle.state_model.specs.Causes.{Why}
@@ -67,8 +67,8 @@ script_sound Cause filter_bytes R said s (line ∷ more) text ending sound (repl
     )
 
 pub first_lines_sound : (Cause : Why → Type 0) (filter_bytes : FilterBytes) (R : ℕ → State → Type 0) (said : ℕ) (s after : State) (lines : List Bytes) (text : Bytes)
-    → IsSound filter_bytes s → WentOn Cause filter_bytes R said s lines text after
-    → WentOn Cause filter_bytes (WithSound filter_bytes R) said s lines text after × IsSound filter_bytes after
+    → IsSound filter_bytes s → AnsweredLines Cause filter_bytes R said s lines text after
+    → AnsweredLines Cause filter_bytes (WithSound filter_bytes R) said s lines text after × IsSound filter_bytes after
 first_lines_sound Cause filter_bytes R said s after [] text sound went = (went, subst (IsSound filter_bytes) (sym went.1) sound)
 first_lines_sound Cause filter_bytes R said s after (line ∷ more) text sound (reply, rest, new, next, whole, step, onward, holds, between, went) =
     let request = request_of line in

@@ -7,11 +7,11 @@ use Rattle.std.proofs.lemmas.Bool.{and_parts}
 use Rattle.filter_model.proofs.Counts.{count_le}
 use Rattle.entry_model.specs.Entries.{Entry}
 use Rattle.map_model.specs.SortedMap.{Bytes, Map, get}
-use Rattle.entry_model.proofs.Maps.{entries_rise}
+use Rattle.range_model.proofs.ChangedMaps.{changes_rise}
 use Rattle.map_model.specs.Slices.{is_before, is_between, between, first_pair, seek}
 use Rattle.map_model.proofs.Between.{within, sought_least}
 use Rattle.state_model.specs.State.{State}
-use Rattle.state_model.specs.View.{entries_of, state_map}
+use Rattle.state_model.specs.View.{changes_of, state_map}
 use Rattle.state_model.specs.Bounds.{is_passed, stepped}
 use Rattle.state_model.specs.ReadLaws.{deleted_between}
 use Rattle.table_model.specs.Tables.{Table}
@@ -32,7 +32,7 @@ stepped_deleted s lo hi key inside passed = by_answer (seek (state_map s) lo (So
     held : (pair : Bytes × Bytes) (value : Option Bytes) → seek (state_map s) lo (Some hi) ≡ Some pair → is_before key pair.0 ≡ true → get (state_map s) key ≡ value → value ≡ None
     held pair None found before got = refl
     held pair (Some value) found before got =
-        absurd (true-false (sym before ∙ sought_least (state_map s) lo (Some hi) pair key value (entries_rise [] (entries_of s) tt) found got inside))
+        absurd (true-false (sym before ∙ sought_least (state_map s) lo (Some hi) pair key value (changes_rise [] (changes_of s) tt) found got inside))
 
     by_answer : (answer : Option (Bytes × Bytes)) → seek (state_map s) lo (Some hi) ≡ answer → is_passed answer key ≡ true → get (state_map s) key ≡ None
     by_answer None none _ = sym (within (state_map s) lo (Some hi) key inside) ∙ ap (λ (m : Map). get m key) (first_none (between (state_map s) lo (Some hi)) none)

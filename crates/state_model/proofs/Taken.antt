@@ -6,11 +6,10 @@ use Rattle.std.specs.List.{AllByRecursion, list_any}
 use Rattle.std.proofs.lemmas.List.Folds.{list_any-append}
 use Rattle.block_model.proofs.Bounds.{weaker}
 use Rattle.map_model.specs.SortedMap.{Bytes}
-use Rattle.entry_model.specs.Newest.{lookup}
 use Rattle.table_model.specs.Tables.{Table}
 use Rattle.state_model.specs.Tends.{without}
 use Rattle.state_model.proofs.Sayings.{or_assoc}
-use Rattle.state_model.proofs.Levels.{says, EitherNone, AtMostOne, in_front, none_front, none_behind}
+use Rattle.state_model.proofs.Levels.{told, EitherNone, AtMostOne, in_front, none_front, none_behind, says}
 use Rattle.extent_model.proofs.Lists.{Pairs, both, all_kept}
 use Rattle.state_model.proofs.Parts.{keep_all, keep_none, keep_same}
 
@@ -112,7 +111,7 @@ parts_stay test inputs tables pairs cross = keep_same (λ (t : Table). not (is_i
     (λ t facts. ap not (list_any-append (λ (i : Table). i.first_page == t.first_page) inputs (filter test tables) ∙ ap (λ (b : Bool). b || is_input (filter test tables) t) (no_input t inputs facts.1) ∙ facts.0)) tables
     (both (λ (t : Table). is_input (filter test tables) t ≡ test t) (λ (t : Table). AllByRecursion (Apart t) inputs) tables (kept_inputs test tables pairs) cross))
 
--- ---- tables of which at most one has the key
+-- ---- tables of which at most one says something of the key
 
 pub part_says : (test : Table → Bool) (tables : List Table) (key : Bytes) → AtMostOne key tables
     → (says tables key ≡ option_or (says (filter test tables) key) (says (filter (λ (t : Table). not (test t)) tables) key)) × EitherNone (says (filter test tables) key) (says (filter (λ (t : Table). not (test t)) tables) key)
@@ -120,7 +119,7 @@ part_says test [] key one = (refl, inl refl)
 part_says test (t ∷ more) key one =
     let f = filter test more in let g = filter (λ (u : Table). not (test u)) more in
     let rest = part_says test more key one.1 in
-    let own = lookup t.entries key in
+    let own = told t key in
     elim (test t) as (λ b. (option_or own (says more key) ≡ option_or (says (cond b (t ∷ f) f) key) (says (cond (not b) (t ∷ g) g) key)) × EitherNone (says (cond b (t ∷ f) f) key) (says (cond (not b) (t ∷ g) g) key)) [
       | true ↦ (
         ap (option_or own) rest.0 ∙ sym (or_assoc own (says f key) (says g key)),

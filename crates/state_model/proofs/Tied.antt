@@ -143,7 +143,7 @@ module _ (filter_bytes : FilterBytes) (s after : State) (tended : Tended) where
     | not_written job new runs may cause left same ↦ inr (refl, left, same)
   ]
 
--- what is refused for room wants more than there is
+-- what is refused for room needs more than there is
 abbrev WantsMore : Tended → Type 0
 WantsMore (Refused (Full need gap)) = gap < need
 WantsMore tended = Unit {0}

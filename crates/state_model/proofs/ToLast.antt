@@ -7,7 +7,7 @@ use Rattle.state_model.specs.Causes.{Why}
 use Rattle.line_model.specs.Requests.{Request, Put, Del, Get, Seek, Range, Count, Estimate, Explain, Flush, Compact, Quit, Bad, request_of}
 use Rattle.line_model.specs.Replies.{Reply, Done, Value, Missing, At, Pairs, End, Counted, About, Explained, Bye, BadLine, LongKey, LongValue, ManyTables, LastEpoch, Full, Memory, Device, Damaged, text_of}
 use Rattle.state_model.specs.Tends.{Tended, Idle, Worked, Refused}
-use Rattle.state_model.specs.Script.{ToLast, AtQuit, AtDevice, AtDamage, Turn, Onward, Over, turn_of, turn_of_slice, AsSaid, EndsOr, Between, Script, WentOn}
+use Rattle.state_model.specs.Script.{ToLast, AtQuit, AtDevice, AtDamage, Turn, Onward, Over, turn_of, turn_of_slice, AsSaid, EndsOr, Between, Script, AnsweredLines}
 
 -- a turn that ends a script, ends it before its last line
 abbrev EndsEarly : Turn → Type 0
@@ -85,7 +85,7 @@ onward (Over AtDevice) rest Next early (none, wrong) = absurd cc
 onward (Over AtDamage) rest Next early (none, wrong) = absurd cc
 
 pub went_to_last : (Cause : Why → Type 0) (filter_bytes : FilterBytes) (R : ℕ → State → Type 0) (said : ℕ) (s : State) (lines : List Bytes) (text : Bytes)
-    → Script Cause filter_bytes R said s lines text ToLast → (after : State) × WentOn Cause filter_bytes R said s lines text after
+    → Script Cause filter_bytes R said s lines text ToLast → (after : State) × AnsweredLines Cause filter_bytes R said s lines text after
 went_to_last Cause filter_bytes R said s [] text script = (s, (script.0, refl))
 went_to_last Cause filter_bytes R said s (line ∷ more) text (reply, rest, new, whole, step, holds, next) =
     let request = request_of line in

@@ -3,10 +3,9 @@ use Rattle.std.proofs.Common.{◌≡◌, inr, ℕ, List, [], ◌∷◌, ◌++◌
 use Rattle.std.specs.Prelude.{Option, Some, None, Result, Ok, Err, ◌==◌, take, drop}
 use Rattle.std.proofs.lemmas.Bool.{eqb-true, eqb-false}
 use Rattle.std.proofs.lemmas.List.{append-nil, map-append, take_all, length-map, drop_all}
-use Rattle.entry_model.specs.Entries.{Entry}
 use Rattle.key_base.specs.Limits.{last_epoch}
 use Rattle.state_model.specs.State.{State, Job, without_job}
-use Rattle.table_model.specs.Tables.{FilterBytes, Table, table_of, table_pages}
+use Rattle.table_model.specs.Tables.{FilterBytes, Table, table_from, source_pages, as_source}
 use Rattle.extent_model.specs.Extents.{Extent}
 use Rattle.extent_model.specs.Gaps.{first_gap, largest_gap}
 use Rattle.state_model.specs.Taken.{extent_of, taken}
@@ -18,56 +17,57 @@ use Rattle.state_model.specs.Script.{Onward, turn_of_slice}
 use Rattle.state_model.specs.Play.{job_of_plan, job_of, finished, installed_or_dropped, merged_by, merged}
 use Rattle.state_model.proofs.Outputs.{placed_lists}
 use Rattle.state_model.proofs.SameRoom.{Alike, in_front, in_front_or_within, no_gap_alike}
+use Rattle.range_model.specs.Sources.{Source}
 
 -- ---- the first output for which there is no room
 
 -- the outputs before it are placed, and beside them there is no gap for it
-pub record FirstRefused (filter_bytes : FilterBytes) (s : State) (taken : List Extent) (level : ℕ) (outputs : List (List Entry)) : Type 0 where
+pub record FirstRefused (filter_bytes : FilterBytes) (s : State) (taken : List Extent) (level : ℕ) (outputs : List Source) : Type 0 where
   made : List Table
-  output : List Entry
-  more : List (List Entry)
+  output : Source
+  more : List Source
   fits : placed filter_bytes s.settings s.pages taken level (take (length made) outputs) ≡ Ok made
   left : drop (length made) outputs ≡ output ∷ more
-  no_gap : first_gap s.pages (in_front made taken) (table_pages filter_bytes s.settings output) ≡ None
+  no_gap : first_gap s.pages (in_front made taken) (source_pages filter_bytes s.settings output) ≡ None
 
 before_refused : (t : Table) (rest : Result (List Table) NoRoom) (refusal : NoRoom) → before t rest ≡ Err refusal → rest ≡ Err refusal
 before_refused t (Ok tables) refusal e = absurd cc
 before_refused t (Err other) refusal e = e
 
-refused_at : (filter_bytes : FilterBytes) (s : State) (taken : List Extent) (level : ℕ) (output : List Entry) (more : List (List Entry)) (refusal : NoRoom)
-    (page : Option ℕ) → first_gap s.pages taken (table_pages filter_bytes s.settings output) ≡ page
-    → ((n : ℕ) → placed filter_bytes s.settings s.pages ((n, table_pages filter_bytes s.settings output) ∷ taken) level more ≡ Err refusal
-    → FirstRefused filter_bytes s ((n, table_pages filter_bytes s.settings output) ∷ taken) level more)
-    → at_page page (λ n. before (table_of filter_bytes s.settings level n output) (placed filter_bytes s.settings s.pages ((n, table_pages filter_bytes s.settings output) ∷ taken) level more))
-    (record { need = table_pages filter_bytes s.settings output; gap = largest_gap s.pages taken }) ≡ Err refusal
+refused_at : (filter_bytes : FilterBytes) (s : State) (taken : List Extent) (level : ℕ) (output : Source) (more : List Source) (refusal : NoRoom)
+    (page : Option ℕ) → first_gap s.pages taken (source_pages filter_bytes s.settings output) ≡ page
+    → ((n : ℕ) → placed filter_bytes s.settings s.pages ((n, source_pages filter_bytes s.settings output) ∷ taken) level more ≡ Err refusal
+    → FirstRefused filter_bytes s ((n, source_pages filter_bytes s.settings output) ∷ taken) level more)
+    → at_page page (λ n. before (table_from filter_bytes s.settings level n output) (placed filter_bytes s.settings s.pages ((n, source_pages filter_bytes s.settings output) ∷ taken) level more))
+    (record { need = source_pages filter_bytes s.settings output; gap = largest_gap s.pages taken }) ≡ Err refusal
     → FirstRefused filter_bytes s taken level (output ∷ more)
 refused_at filter_bytes s taken level output more refusal None gap later e = record { made = []; output = output; more = more; fits = refl; left = refl; no_gap = gap }
 refused_at filter_bytes s taken level output more refusal (Some n) gap later e =
-    let need = table_pages filter_bytes s.settings output in
-    let t = table_of filter_bytes s.settings level n output in
+    let need = source_pages filter_bytes s.settings output in
+    let t = table_from filter_bytes s.settings level n output in
     let rest = later n (before_refused t (placed filter_bytes s.settings s.pages ((n, need) ∷ taken) level more) refusal e) in
     record {
       made = t ∷ rest.made;
       output = rest.output;
       more = rest.more;
       fits = ap (λ (page : Option ℕ). at_page page
-          (λ n. before (table_of filter_bytes s.settings level n output) (placed filter_bytes s.settings s.pages ((n, need) ∷ taken) level (take (length rest.made) more)))
+          (λ n. before (table_from filter_bytes s.settings level n output) (placed filter_bytes s.settings s.pages ((n, need) ∷ taken) level (take (length rest.made) more)))
           (record { need = need; gap = largest_gap s.pages taken })) gap ∙ ap (before t) rest.fits;
       left = rest.left;
       no_gap = rest.no_gap;
     }
 
-first_refused : (filter_bytes : FilterBytes) (s : State) (taken : List Extent) (level : ℕ) (outputs : List (List Entry)) (refusal : NoRoom)
+first_refused : (filter_bytes : FilterBytes) (s : State) (taken : List Extent) (level : ℕ) (outputs : List Source) (refusal : NoRoom)
     → placed filter_bytes s.settings s.pages taken level outputs ≡ Err refusal → FirstRefused filter_bytes s taken level outputs
 first_refused filter_bytes s taken level [] refusal e = absurd cc
 first_refused filter_bytes s taken level (output ∷ more) refusal e =
-    let need = table_pages filter_bytes s.settings output in
+    let need = source_pages filter_bytes s.settings output in
     refused_at filter_bytes s taken level output more refusal (first_gap s.pages taken need) refl
     (λ n. first_refused filter_bytes s ((n, need) ∷ taken) level more refusal) e
 
 -- ---- the slice
 
--- a slice leads here, and ends no script; no job runs behind it
+-- a slice leads here, and ends no script; no job runs after it
 abbrev pub Slice : (Why → Type 0) → FilterBytes → State → State → Type 0
 Slice Cause filter_bytes s after = ((t : Tended) × Tend Cause filter_bytes s t after × (Onward ≡ turn_of_slice t)) × (after.job ≡ None)
 
@@ -91,15 +91,15 @@ dropped_slice : (Cause : Why → Type 0) (filter_bytes : FilterBytes) (s : State
 dropped_slice Cause filter_bytes s plan runs first =
     let job = started plan in
     let later = with_written job first.made in
-    let need = table_pages filter_bytes s.settings first.output in
+    let need = source_pages filter_bytes s.settings first.output in
     let refusal : NoRoom = record { need = need; gap = largest_gap s.pages (taken (with_job s later)) } in
     let alike = subst (λ (l : List Extent). Alike (in_front first.made l) (taken (with_job s later))) (sym (taken_before s job refl))
     (subst (Alike (in_front first.made (map extent_of s.tables ++ map extent_of s.kept))) (sym (taken_behind s job first.made refl))
     (in_front_or_within first.made (map extent_of s.tables) (map extent_of s.kept))) in
     let none = no_gap_alike s.pages need (in_front first.made (taken (with_job s job))) (taken (with_job s later)) alike first.no_gap in
-    let refused = ap (λ (l : List (List Entry)). placed filter_bytes s.settings s.pages (taken (with_job s later)) job.output (take 1 l)) first.left
+    let refused = ap (λ (l : List Source). placed filter_bytes s.settings s.pages (taken (with_job s later)) job.output (take 1 l)) first.left
     ∙ ap (λ (page : Option ℕ). at_page page
-    (λ n. before (table_of filter_bytes s.settings job.output n first.output) (Ok [])) refusal) none in
+    (λ n. before (table_from filter_bytes s.settings job.output n first.output) (Ok [])) refusal) none in
     let goes_on : Progresses filter_bytes s job later = record { inputs = refl; output = refl; to_read = omega arith; more = length first.made; made = first.made; placed_so = first.fits; written = refl } in
     ((Refused (Full refusal.need refusal.gap), no_room job later refusal runs goes_on refused, refl), refl)
 
@@ -113,7 +113,7 @@ finished_slice Cause filter_bytes s plan made runs e is_last at_last =
     let later = finished job made in
     let outputs = outstanding s.tables job in
     let lists = placed_lists filter_bytes s (taken (with_job s job)) job.output (take (length outputs) outputs) made e ∙ take_all (length outputs) outputs (omega arith) in
-    let many = sym (length-map made (λ (t : Table). t.entries)) ∙ ap (λ (l : List (List Entry)). length l) lists in
+    let many = sym (length-map made as_source) ∙ ap (λ (l : List Source). length l) lists in
     let all_written : outstanding s.tables later ≡ [] = drop_all (length made) outputs (omega arith) in
     let goes_on : Progresses filter_bytes s job later = record { inputs = refl; output = refl; to_read = omega arith; more = length outputs; made = made; placed_so = e; written = refl } in
     let done : IsDone s.tables later = record { all_read = refl; all_written = all_written } in

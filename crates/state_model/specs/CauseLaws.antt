@@ -49,8 +49,8 @@ pub record CausesHaveReplies : Type 0 where
 abbrev pub TendedOr : FilterBytes → State → Reply → Tended → State → Type 0
 TendedOr filter_bytes s why tended after = Tend Never filter_bytes s tended after ⊎ ((tended ≡ Refused why) × (after ≡ record s { job = None }))
 
--- The same of a merge slice, which is an ordinary one or is told of its cause. Behind a failed write stands the same map. What
--- is refused for room wants more than the gap that is named.
+-- The same of a merge slice, which is an ordinary one or is told of its cause. After a failed write the map is the same. What
+-- is refused for room needs more than the gap that is named.
 pub record SlicesHaveReplies : Type 0 where
   pub memory :
       (filter_bytes : FilterBytes) (s after : State) (tended : Tended) → Tend (Only NoMemory) filter_bytes s tended after
@@ -70,7 +70,7 @@ pub record SlicesHaveReplies : Type 0 where
 
 -- ---- where any of some causes may be met
 
--- What a reply says: want of memory, a failed read, a failed write or damage is told where it is allowed, and the request
+-- What a reply says: lack of memory, a failed read, a failed write or damage is told where it is allowed, and the request
 -- takes memory, reads or writes; a line that tells of none of these has its answer.
 abbrev pub IsTold : (Why → Bool) → FilterBytes → State → Request → Reply → State → Type 0
 IsTold causes filter_bytes s request Memory after = Allowed causes NoMemory × TakesMemory s request × IsUnchanged request s after

@@ -1,13 +1,14 @@
 -- What a put, a flush and a compaction make of a state, or the reply by which they are refused.
 use Rattle.std.specs.Prelude.{◌+◌, ◌==◌, nat_le, nat_lt, Bool, if◌then◌else◌, List, [], ◌∷◌, ◌++◌, length, filter, None, Result, Ok, Err}
 use Rattle.key_base.specs.Limits.{last_epoch, max_level, max_logged_value_bytes, max_tables}
-use Rattle.entry_model.specs.Entries.{Entry, bytes_of, need, gap}
-use Rattle.entry_model.specs.Newest.{newest_entries}
+use Rattle.entry_model.specs.Entries.{Entry, bytes_of}
+use Rattle.range_model.specs.Sources.{Change, Source, alone, source_of}
+use Rattle.state_model.specs.Logs.{need_of, gap_after, recorded}
 use Rattle.state_model.specs.State.{State, without_job}
 use Rattle.table_model.specs.Tables.{FilterBytes, Table}
-use Rattle.state_model.specs.View.{memory, entries_of}
+use Rattle.state_model.specs.View.{in_memory, memory, changes_of}
 use Rattle.state_model.specs.Taken.{taken}
-use Rattle.state_model.specs.Merges.{NoRoom, placed, outputs_for, has_value}
+use Rattle.state_model.specs.Merges.{NoRoom, placed, cut_for, has_value}
 use Rattle.line_model.specs.Replies.{Reply, ManyTables, LastEpoch, Full}
 
 -- ---- flush
@@ -20,35 +21,36 @@ abbrev pub flush_placed : State → Result (List Table) NoRoom → Result State 
 flush_placed s (Ok made) = with_tables s (made ++ s.tables)
 flush_placed s (Err refusal) = Err (Full refusal.need refusal.gap)
 
-abbrev pub flushed_with : FilterBytes → State → List Entry → Result State Reply
-flushed_with filter_bytes s [] = Ok s
-flushed_with filter_bytes s (entry ∷ more) =
-    if nat_le max_tables (length s.tables) then Err ManyTables else flush_placed s (placed filter_bytes s.settings s.pages (taken s) 0 ((entry ∷ more) ∷ []))
+-- a source is flushed where it has entries
+abbrev pub flushed_with : FilterBytes → State → Source → List Entry → Result State Reply
+flushed_with filter_bytes s source [] = Ok s
+flushed_with filter_bytes s source (entry ∷ more) =
+    if nat_le max_tables (length s.tables) then Err ManyTables else flush_placed s (placed filter_bytes s.settings s.pages (taken s) 0 (source ∷ []))
 
--- The memory entries become one table, the first of level 0, in the first gap that holds it, and the log is empty. Where
--- there are none nothing changes.
+-- What is in memory becomes one table, the first of level 0, in the first gap that holds it, and the log is empty. Where
+-- there are no entries nothing changes.
 abbrev pub flushed : FilterBytes → State → Result State Reply
-flushed filter_bytes s = flushed_with filter_bytes s (memory s)
+flushed filter_bytes s = flushed_with filter_bytes s (in_memory s) (memory s)
 
 -- ---- put and del
 
-abbrev pub logged : State → Entry → State
-logged s entry = record s { log = s.log ++ (entry ∷ []) }
+abbrev pub logged : State → Change → State
+logged s change = record s { log = s.log ++ (change ∷ []) }
 
-abbrev pub logged_then : Entry → Result State Reply → Result State Reply
-logged_then entry (Ok s) = Ok (logged s entry)
-logged_then entry (Err refusal) = Err refusal
+abbrev pub logged_then : Change → Result State Reply → Result State Reply
+logged_then change (Ok s) = Ok (logged s change)
+logged_then change (Err refusal) = Err refusal
 
 -- the value is longer than any that the log takes
 abbrev pub is_long : Entry → Bool
 is_long entry = nat_lt max_logged_value_bytes (length (bytes_of entry.value))
 
--- The entry is logged, after a flush exactly where its record does not fit the log area. One with a long value is not logged:
--- it is flushed, over the memory entries.
-abbrev pub written : FilterBytes → State → Entry → Result State Reply
-written filter_bytes s entry =
-    if is_long entry then flushed filter_bytes (logged s entry)
-    else (if nat_le (need entry) (gap s.log) then Ok (logged s entry) else logged_then entry (flushed filter_bytes s))
+-- The change is logged, after a flush exactly where its record does not fit the log area. An entry with a long value is not
+-- logged: it is flushed, over what is in memory.
+abbrev pub written : FilterBytes → State → Change → Result State Reply
+written filter_bytes s change =
+    if is_long (recorded change) then flushed filter_bytes (logged s change)
+    else (if nat_le (need_of change) (gap_after s.log) then Ok (logged s change) else logged_then change (flushed filter_bytes s))
 
 -- ---- compact
 
@@ -58,15 +60,19 @@ compact_placed s (Err refusal) = Err (Full refusal.need refusal.gap)
 
 -- the live pairs alone, as entries
 abbrev pub live_entries : State → List Entry
-live_entries s = filter (λ (e : Entry). has_value e.value) (newest_entries (entries_of s))
+live_entries s = filter (λ (e : Entry). has_value e.value) (source_of (changes_of s)).entries
 
--- Some entries, and tables with them, become tables of the last level.
-abbrev pub compacted_with : FilterBytes → State → List Entry → Result State Reply
+-- what a compaction writes: the live pairs, and no range
+abbrev pub compacted_outputs : State → List Source
+compacted_outputs s = cut_for s.tables (alone (live_entries s))
+
+-- Some changes, and tables with them, become tables of the last level.
+abbrev pub compacted_with : FilterBytes → State → List Change → Result State Reply
 compacted_with filter_bytes s [] = Ok s
-compacted_with filter_bytes s (entry ∷ more) =
+compacted_with filter_bytes s (change ∷ more) =
     if s.epoch == last_epoch then Err LastEpoch
-    else compact_placed s (placed filter_bytes s.settings s.pages (taken (without_job s)) max_level (outputs_for s.tables (live_entries s)))
+    else compact_placed s (placed filter_bytes s.settings s.pages (taken (without_job s)) max_level (compacted_outputs s))
 
--- The live pairs alone stand in tables of the last level, the log is empty and no job runs. An empty store stays as it is.
+-- The live pairs alone are in tables of the last level, the log is empty and no job runs. An empty store stays as it is.
 abbrev pub compacted : FilterBytes → State → Result State Reply
-compacted filter_bytes s = compacted_with filter_bytes s (entries_of s)
+compacted filter_bytes s = compacted_with filter_bytes s (changes_of s)

@@ -1,8 +1,12 @@
 -- States and requests by which the definitions are shown.
-use Rattle.std.specs.Prelude.{ℕ, List, [], ◌∷◌, length, map, replicate, Option, Some, None, codes}
+use Rattle.std.specs.Prelude.{ℕ, List, [], ◌∷◌, length, fold, map, replicate, Option, Some, None, codes}
 use Rattle.filter_api.specs.declared.settings.Settings.{Settings}
 use Rattle.map_model.specs.SortedMap.{Bytes}
-use Rattle.entry_model.specs.Entries.{del_entry}
+use Rattle.entry_model.specs.Entries.{del_entry, put_entry}
+use Rattle.block_model.specs.Pages.{first_key}
+use Rattle.range_model.specs.Ranges.{range_of}
+use Rattle.range_model.specs.Sources.{Change, Sets, Clears}
+use Rattle.state_model.specs.Changes.{compacted, flushed, written}
 use Rattle.state_model.specs.State.{State, Job, new_state}
 use Rattle.table_model.specs.Tables.{FilterBytes, Table}
 use Rattle.state_model.specs.Merges.{Plan}
@@ -62,7 +66,7 @@ tombstone_over_a_value =
 abbrev pub two_values : List Request
 two_values = Put (key 0x61) (1 ∷ []) ∷ Flush ∷ Put (key 0x61) (2 ∷ []) ∷ Flush ∷ []
 
--- a table of one key and no value in so many pages
+-- a table of one key and no value in a given number of pages
 abbrev pub table_at : ℕ → ℕ → ℕ → Bytes → Table
 table_at level first_page pages key = record {
   level = level;
@@ -71,7 +75,37 @@ table_at level first_page pages key = record {
   blocks = 1;
   settings = base;
   entries = del_entry key ∷ [];
+  ranges = [];
 }
+
+-- such a table with a deleted range from its key up to another one
+abbrev pub reaching : Table → ℕ → Table
+reaching t end = record t { ranges = range_of (first_key t.entries) (key end) ∷ [] }
+
+-- an entry of one byte that is set, and a range between keys of one byte that is cleared
+abbrev pub sets : ℕ → ℕ → Change
+sets n value = Sets (put_entry (key n) (value ∷ []))
+
+abbrev pub clears : ℕ → ℕ → Change
+clears lo hi = Clears (range_of (key lo) (key hi))
+
+-- the state after changes that are written, after a flush and after a compaction; the same, where they are refused
+abbrev pub behind : State → List Change → State
+behind s changes = fold (λ (t : State) (change : Change). (done_or_refused t (written one_byte t change)).1) s changes
+
+abbrev pub behind_flush : State → State
+behind_flush s = (done_or_refused s (flushed one_byte s)).1
+
+abbrev pub behind_compaction : State → State
+behind_compaction s = (done_or_refused s (compacted one_byte s)).1
+
+-- 61, 62 and 63 in a table, and in memory a range over the first two
+abbrev pub two_cleared : State
+two_cleared = behind (behind_flush (behind small_store (sets 0x61 1 ∷ sets 0x62 2 ∷ sets 0x63 3 ∷ []))) (clears 0x61 0x63 ∷ [])
+
+-- a value, a range over it, a put within the range and its tombstone, each in a table
+abbrev pub put_and_cleared : State
+put_and_cleared = fold (λ (s : State) (change : Change). behind_flush (behind s (change ∷ []))) small_store (sets 0x62 1 ∷ clears 0x61 0x63 ∷ sets 0x62 2 ∷ Sets (del_entry (key 0x62)) ∷ [])
 
 -- a store of 4,096 pages with some tables
 abbrev pub store_with : List Table → State
@@ -93,11 +127,11 @@ all_written s = record (all_read s) { written = table_at 1 204 3 (key 0x61) ∷ 
 abbrev pub cramped : State
 cramped = record (played one_byte small_store four_tables).1 { pages = 206 }
 
--- where a table stands: level, first page, pages, data blocks, entries
+-- where a table is: level, first page, pages, data blocks, entries
 abbrev pub place_and_size : Table → List ℕ
 place_and_size t = t.level ∷ t.first_page ∷ t.pages ∷ t.blocks ∷ length t.entries ∷ []
 
--- the state with other settings, or with so many pages; the same, where that is refused
+-- the state with other settings, or with a given number of pages; the same, where that is refused
 abbrev pub set_to : Settings → State → State
 set_to settings s = (done_or_refused s (with_settings settings s)).1
 

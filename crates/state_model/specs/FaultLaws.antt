@@ -6,10 +6,11 @@ use Rattle.map_model.specs.SortedMap.{Bytes, Map}
 use Rattle.map_model.specs.Slices.{slice}
 use Rattle.entry_model.specs.Entries.{put_entry, del_entry}
 use Rattle.state_model.specs.State.{State, Job, without_job}
-use Rattle.state_model.specs.View.{memory, entries_of, state_map}
+use Rattle.range_model.specs.Sources.{Sets}
+use Rattle.state_model.specs.View.{memory, changes_of, state_map}
 use Rattle.state_model.specs.Bounds.{get_bound, seek_bound}
-use Rattle.state_model.specs.Changes.{written, flushed, live_entries}
-use Rattle.state_model.specs.Merges.{NoRoom, placed, outputs_for}
+use Rattle.state_model.specs.Changes.{written, flushed, compacted_outputs}
+use Rattle.state_model.specs.Merges.{NoRoom, placed}
 use Rattle.state_model.specs.Taken.{taken}
 use Rattle.table_model.specs.Tables.{FilterBytes}
 use Rattle.state_model.specs.Causes.{Why, NoMemory, ReadFailed, WriteFailed, DamageMet}
@@ -35,7 +36,7 @@ OfReads ReadFailed = Unit {0}
 OfReads (DamageMet damage) = Unit {0}
 OfReads why = ⊥
 
--- any cause but want of memory
+-- any cause but lack of memory
 abbrev pub OfDevice : Why → Type 0
 OfDevice NoMemory = ⊥
 OfDevice why = Unit {0}
@@ -48,7 +49,7 @@ is_change Flush = true
 is_change Compact = true
 is_change request = false
 
--- No want of memory is met by a get, no failed read and no damage by a put, a del and a flush, and no failed write by what
+-- No lack of memory is met by a get, no failed read and no damage by a put, a del and a flush, and no failed write by what
 -- asks for no change. An estimate and an explain meet nothing.
 pub record FaultsAreMet : Type 0 where
   pub get_takes_none : (filter_bytes : FilterBytes) (s after : State) (key : Bytes) → Step Ever filter_bytes s (Get key) Memory after → ⊥
@@ -80,10 +81,10 @@ IsSaidOf s lo hi n said = (k : ℕ) × (k < n) × (said ≡ take k (slice (state
 -- nor for no pairs, nor without tables. What a range has said as a read fails are first pairs of its answer.
 pub record FaultsHaveCauses : Type 0 where
   pub refused_put :
-      (filter_bytes : FilterBytes) (s after : State) (reply : Reply) (key value : Bytes) (why : Reply) → written filter_bytes s (put_entry key value) ≡ Err why → Step OfDevice filter_bytes s (Put key value) reply after
+      (filter_bytes : FilterBytes) (s after : State) (reply : Reply) (key value : Bytes) (why : Reply) → written filter_bytes s (Sets (put_entry key value)) ≡ Err why → Step OfDevice filter_bytes s (Put key value) reply after
       → IsAnswered filter_bytes s (Put key value) reply after
   pub refused_del :
-      (filter_bytes : FilterBytes) (s after : State) (reply : Reply) (key : Bytes) (why : Reply) → written filter_bytes s (del_entry key) ≡ Err why → Step OfDevice filter_bytes s (Del key) reply after
+      (filter_bytes : FilterBytes) (s after : State) (reply : Reply) (key : Bytes) (why : Reply) → written filter_bytes s (Sets (del_entry key)) ≡ Err why → Step OfDevice filter_bytes s (Del key) reply after
       → IsAnswered filter_bytes s (Del key) reply after
   pub refused_flush :
       (filter_bytes : FilterBytes) (s after : State) (reply : Reply) (why : Reply) → flushed filter_bytes s ≡ Err why → Step OfDevice filter_bytes s Flush reply after
@@ -92,7 +93,7 @@ pub record FaultsHaveCauses : Type 0 where
       (filter_bytes : FilterBytes) (s after : State) (reply : Reply) → memory s ≡ [] → Step Ever filter_bytes s Flush reply after
       → IsAnswered filter_bytes s Flush reply after
   pub compaction_of_nothing :
-      (filter_bytes : FilterBytes) (s after : State) (reply : Reply) → entries_of s ≡ [] → Step Ever filter_bytes s Compact reply after
+      (filter_bytes : FilterBytes) (s after : State) (reply : Reply) → changes_of s ≡ [] → Step Ever filter_bytes s Compact reply after
       → IsAnswered filter_bytes s Compact reply after
   pub compaction_at_the_last_epoch :
       (filter_bytes : FilterBytes) (s after : State) (reply : Reply) → s.epoch ≡ last_epoch → Step Ever filter_bytes s Compact reply after
@@ -102,7 +103,7 @@ pub record FaultsHaveCauses : Type 0 where
       → IsAnswered filter_bytes s Compact reply after
   pub compaction_without_room :
       (filter_bytes : FilterBytes) (s after : State) (reply : Reply) (refusal : NoRoom)
-      → placed filter_bytes s.settings s.pages (taken (without_job s)) max_level (take 1 (outputs_for s.tables (live_entries s))) ≡ Err refusal
+      → placed filter_bytes s.settings s.pages (taken (without_job s)) max_level (take 1 (compacted_outputs s)) ≡ Err refusal
       → Step (Only WriteFailed) filter_bytes s Compact reply after → IsAnswered filter_bytes s Compact reply after
   pub get_of_no_block :
       (filter_bytes : FilterBytes) (s after : State) (reply : Reply) (key : Bytes) → get_bound s key ≡ 0 → Step Ever filter_bytes s (Get key) reply after
@@ -145,7 +146,7 @@ IsUnchanged request s after = after ≡ s
 abbrev pub TellsOfRead : Reply → Type 0
 TellsOfRead reply = (reply ≡ Device) ⊎ ((damage : Damage) × (reply ≡ Damaged damage))
 
--- a range ends so, behind some of its pairs
+-- a range ends so, after some of its pairs
 abbrev pub EndsPairs : State → Request → Reply → Type 0
 EndsPairs s (Range lo hi n) reply = (said : Map) × (end : Reply) × (reply ≡ Pairs said end) × IsSaidOf s lo hi n said × TellsOfRead end
 EndsPairs s request reply = ⊥
@@ -153,13 +154,13 @@ EndsPairs s request reply = ⊥
 abbrev pub TellsOfFault : State → Request → Reply → Type 0
 TellsOfFault s request reply = (reply ≡ Memory) ⊎ (TellsOfRead reply ⊎ EndsPairs s request reply)
 
--- the map before the line, or behind its answer
+-- the map before the line, or after its answer
 abbrev pub HasEitherMap : FilterBytes → State → Request → State → Type 0
 HasEitherMap filter_bytes s request after = (state_map after ≡ state_map s) ⊎ (state_map after ≡ state_map (answer filter_bytes s request).1)
 
 -- A failed write apart, a line has its answer, or tells of a fault and changes nothing. So the map changes by the lines that
--- are answered as done, and by no other. Behind a failed write, which is told as one of the device, stands the map before
--- the line or behind it. A quit and a bad line have their answers, whatever happens.
+-- are answered as done, and by no other. After a failed write, which is reported as one of the device, holds the map before
+-- the line or after it. A quit and a bad line have their answers, whatever happens.
 pub record StepsAreAnswers : Type 0 where
   pub line :
       (filter_bytes : FilterBytes) (s after : State) (request : Request) (reply : Reply) → Step ButWrites filter_bytes s request reply after

@@ -3,7 +3,10 @@ pub use Rattle.line_model.specs.Limits
 pub use Rattle.line_model.specs.Replies
 pub use Rattle.line_model.specs.Requests
 pub use Rattle.map_model.specs.SortedMap
+pub use Rattle.range_model.specs.Ranges
+pub use Rattle.range_model.specs.Sources
 pub mod State
+pub mod Logs
 pub mod View
 pub mod Taken
 pub mod Merges
@@ -24,3 +27,4 @@ pub mod Refusals
 pub mod FaultLaws
 pub mod CauseLaws
 pub mod ReadLaws
+pub mod WithoutRanges

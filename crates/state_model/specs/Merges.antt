@@ -1,14 +1,16 @@
 -- Which tables are merged, and into what.
-use Rattle.std.specs.Prelude.{ℕ, zero, suc, ◌+◌, ◌-◌, ◌*◌, ◌^◌, ◌==◌, nat_le, nat_lt, Bool, true, false, not, ◌&&◌, if◌then◌else◌, List, [], ◌∷◌, ◌++◌, take, filter, fold, length, Option, Some, None, Result, Ok, Err}
+use Rattle.std.specs.Prelude.{◌≡◌, ℕ, zero, suc, ◌+◌, ◌-◌, ◌*◌, ◌^◌, ◌==◌, nat_le, nat_lt, Bool, true, false, not, ◌&&◌, if◌then◌else◌, List, [], ◌∷◌, ◌++◌, take, filter, fold, length, Option, Some, None, Result, Ok, Err}
 use Rattle.std.specs.List.{list_any, sum_by}
 use Rattle.filter_api.specs.declared.settings.Settings.{Settings}
 use Rattle.key_base.specs.Limits.{merge_data_pages}
 use Rattle.map_model.specs.SortedMap.{Bytes}
 use Rattle.entry_model.specs.Entries.{Entry}
-use Rattle.entry_model.specs.Newest.{newest_entries}
+use Rattle.range_model.specs.Sources.{Source, alone, source_of}
+use Rattle.range_model.specs.Outputs.{with_ranges}
+use Rattle.range_model.specs.Reach.{reach, lies_below}
 use Rattle.block_model.specs.Pages.{data_pages, first_key, last_key}
 use Rattle.map_model.specs.Slices.{is_before}
-use Rattle.table_model.specs.Tables.{FilterBytes, Table, table_of, table_pages}
+use Rattle.table_model.specs.Tables.{FilterBytes, Table, as_source, table_from, source_pages}
 use Rattle.state_model.specs.View.{oldest_first}
 use Rattle.extent_model.specs.Extents.{Extent}
 use Rattle.extent_model.specs.Gaps.{first_gap, largest_gap}
@@ -39,9 +41,21 @@ abbrev pub greatest_of : List Table → Bytes
 greatest_of [] = []
 greatest_of (t ∷ more) = fold (λ key (u : Table). greater key (greatest_key u)) (greatest_key t) more
 
--- the table's keys reach into those from lo to hi
-abbrev pub overlaps : Bytes → Bytes → Table → Bool
-overlaps lo hi t = not (is_before (greatest_key t) lo) && not (is_before hi (least_key t))
+-- the greatest end of their ranges, no bytes where there is none
+abbrev pub reach_of : List Table → Bytes
+reach_of tables = fold (λ key (u : Table). greater key (reach u.ranges)) [] tables
+
+-- all that the table speaks of comes before the key; its last range may end there
+abbrev pub LiesBelow : Table → Bytes → Type 0
+LiesBelow t key = lies_below (as_source t) key ≡ true
+
+-- all that some tables speak of comes before the key
+abbrev pub all_below : List Table → Bytes → Bool
+all_below tables key = is_before (greatest_of tables) key && not (is_before key (reach_of tables))
+
+-- the table reaches into what some tables speak of: it does not lie below the least of their keys, nor they below its least
+abbrev pub meets : List Table → Table → Bool
+meets tables t = not (lies_below (as_source t) (least_of tables)) && not (all_below tables (least_key t))
 
 -- tables that are merged, the newest first, and the level of what they become
 pub record Plan : Type 0 where
@@ -50,7 +64,7 @@ pub record Plan : Type 0 where
 
 -- some of all tables, with those of the level below that they meet
 abbrev pub plan_of : List Table → List Table → ℕ → Plan
-plan_of all tables output = record { inputs = tables ++ filter (overlaps (least_of tables) (greatest_of tables)) (on_level output all); output = output }
+plan_of all tables output = record { inputs = tables ++ filter (meets tables) (on_level output all); output = output }
 
 -- the pages that a level may have
 abbrev pub level_limit : ℕ → ℕ
@@ -82,9 +96,13 @@ has_value (Some value) = true
 abbrev pub lasting : Bool → List Entry → List Entry
 lasting is_last entries = if is_last then filter (λ (e : Entry). has_value e.value) entries else entries
 
--- the newest entry of each key of some tables, the newest table first
-abbrev pub newest_of : List Table → List Entry
-newest_of tables = newest_entries (oldest_first tables)
+-- what it keeps of a source: ranges go where tombstones go
+abbrev pub lasting_of : Bool → Source → Source
+lasting_of is_last s = if is_last then alone (lasting true s.entries) else s
+
+-- what some tables make, the newest table first: the newest entry of each key that no newer range covers, and all ranges
+abbrev pub merged_of : List Table → Source
+merged_of tables = source_of (oldest_first tables)
 
 -- The first output and what is left, after some entries that it has already. It is closed by the entry with which it has the
 -- data pages at which a merge closes a table.
@@ -93,7 +111,7 @@ split_output output [] = (output, [])
 split_output output (entry ∷ more) =
     if nat_le merge_data_pages (data_pages (output ++ (entry ∷ []))) then (output ++ (entry ∷ []), more) else split_output (output ++ (entry ∷ [])) more
 
--- the outputs: each but the last is closed as soon as it is full, and at most so many come beside one. None is empty.
+-- the outputs: each but the last is closed as soon as it is full, and at most that many come beside one. None is empty.
 abbrev pub outputs_of : ℕ → List Entry → List (List Entry)
 outputs_of beside [] = []
 outputs_of zero (entry ∷ more) = (entry ∷ more) ∷ []
@@ -105,9 +123,13 @@ outputs_of (suc beside) (entry ∷ more) =
 abbrev pub outputs_for : List Table → List Entry → List (List Entry)
 outputs_for inputs entries = outputs_of (length inputs - 1) entries
 
+-- the entries of a source are cut into outputs, and each has the ranges up to the first key of the next
+abbrev pub cut_for : List Table → Source → List Source
+cut_for inputs s = with_ranges (outputs_for inputs s.entries) s.ranges
+
 -- the outputs of a plan among some tables
-abbrev pub planned : List Table → Plan → List (List Entry)
-planned tables plan = outputs_for plan.inputs (lasting (is_deepest tables plan.output) (newest_of plan.inputs))
+abbrev pub planned : List Table → Plan → List Source
+planned tables plan = cut_for plan.inputs (lasting_of (is_deepest tables plan.output) (merged_of plan.inputs))
 
 -- ---- and where
 
@@ -121,17 +143,17 @@ abbrev pub before : Table → Result (List Table) NoRoom → Result (List Table)
 before t (Ok tables) = Ok (t ∷ tables)
 before t (Err refusal) = Err refusal
 
--- what stands at the page, where there is one
+-- what is at the page, where there is one
 abbrev pub at_page : Option ℕ → (ℕ → Result (List Table) NoRoom) → NoRoom → Result (List Table) NoRoom
 at_page (Some page) there refusal = there page
 at_page None there refusal = Err refusal
 
--- On a device of so many pages, some outputs become tables of a level, each in the first gap that holds it beside what is
+-- On a device of a given number of pages, some outputs become tables of a level, each in the first gap that holds it beside what is
 -- taken and those before it.
-abbrev pub placed : FilterBytes → Settings → ℕ → List Extent → ℕ → List (List Entry) → Result (List Table) NoRoom
+abbrev pub placed : FilterBytes → Settings → ℕ → List Extent → ℕ → List Source → Result (List Table) NoRoom
 placed filter_bytes settings pages taken level [] = Ok []
 placed filter_bytes settings pages taken level (output ∷ more) =
-    let need = table_pages filter_bytes settings output in
+    let need = source_pages filter_bytes settings output in
     at_page (first_gap pages taken need)
-    (λ page. before (table_of filter_bytes settings level page output) (placed filter_bytes settings pages ((page, need) ∷ taken) level more))
+    (λ page. before (table_from filter_bytes settings level page output) (placed filter_bytes settings pages ((page, need) ∷ taken) level more))
     (record { need = need; gap = largest_gap pages taken })

@@ -1,7 +1,7 @@
 -- Runs of the script that compute: memory lasts, the device holds, and each merge is done whole in its first merge slice, or
--- in merge slices of so many blocks.
+-- in merge slices of a given number of blocks.
 use Rattle.std.specs.Prelude.{ℕ, ◌-◌, ◌==◌, nat_lt, if◌then◌else◌, List, [], ◌∷◌, ◌++◌, length, Option, Some, None, Result, Ok, Err}
-use Rattle.entry_model.specs.Entries.{Entry}
+use Rattle.range_model.specs.Sources.{Source}
 use Rattle.key_base.specs.Limits.{last_epoch}
 use Rattle.state_model.specs.State.{State, Job, without_job}
 use Rattle.table_model.specs.Tables.{FilterBytes, Table}
@@ -40,7 +40,7 @@ merged filter_bytes s = merged_by filter_bytes s (job_of s.job (choose s.tables)
 -- ---- a merge in merge slices
 
 -- the job goes on; where nothing is left of it, it is installed, or dropped at the last epoch
-abbrev pub went_on_by : State → Job → List (List Entry) → State
+abbrev pub went_on_by : State → Job → List Source → State
 went_on_by s job [] = if s.epoch == last_epoch then without_job s else installed s job
 went_on_by s job (output ∷ more) = with_job s job
 
@@ -53,24 +53,24 @@ output_written s job (Ok made) = went_on s (finished job made)
 output_written s job (Err refusal) = without_job s
 
 -- the first of these outputs is written; where none is left the job is installed, or dropped at the last epoch
-abbrev pub with_next : FilterBytes → State → Job → List (List Entry) → State
+abbrev pub with_next : FilterBytes → State → Job → List Source → State
 with_next filter_bytes s job [] = if s.epoch == last_epoch then without_job s else installed s job
 with_next filter_bytes s job outputs = output_written s job (next_placed filter_bytes s job 1)
 
--- so many blocks more are read, or where none is left comes the next output
+-- a given number of blocks more are read, or where none is left comes the next output
 abbrev pub sliced_by : FilterBytes → ℕ → State → Option Job → State
 sliced_by filter_bytes blocks s None = s
 sliced_by filter_bytes blocks s (Some job) =
     if nat_lt 0 job.to_read then went_on s (record job { to_read = job.to_read - blocks })
     else with_next filter_bytes s job (outstanding s.tables job)
 
--- the state after one merge slice of so many blocks, where a job runs or is to be chosen
+-- the state after one merge slice of a given number of blocks, where a job runs or is to be chosen
 abbrev pub sliced : FilterBytes → ℕ → State → State
 sliced filter_bytes blocks s = sliced_by filter_bytes blocks s (job_of s.job (choose s.tables))
 
 -- ---- lines
 
--- a whole merge, or a merge slice, behind each put and del
+-- a whole merge, or a merge slice, after each put and del
 abbrev pub tended_by : (State → State) → Request → State → State
 tended_by merge (Put key value) s = merge s
 tended_by merge (Del key) s = merge s
@@ -79,7 +79,7 @@ tended_by merge request s = s
 abbrev pub tended : FilterBytes → Request → State → State
 tended filter_bytes request s = tended_by (merged filter_bytes) request s
 
--- a reply, and those to the lines behind it; none where it is the last
+-- a reply, and those to the lines after it; none where it is the last
 abbrev pub reply_then : Reply → List Reply × State → State → List Reply × State
 reply_then Bye later s = (Bye ∷ [], s)
 reply_then reply later s = (reply ∷ later.0, later.1)
@@ -91,7 +91,7 @@ played_by filter_bytes merge s (request ∷ more) =
     let a = answer filter_bytes s request in
     reply_then a.0 (played_by filter_bytes merge (tended_by merge request a.1) more) a.1
 
--- with a whole merge behind each put and del, or with one merge slice of so many blocks
+-- with a whole merge after each put and del, or with one merge slice of a given number of blocks
 abbrev pub played : FilterBytes → State → List Request → List Reply × State
 played filter_bytes s requests = played_by filter_bytes (merged filter_bytes) s requests
 

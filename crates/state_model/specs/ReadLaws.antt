@@ -28,8 +28,8 @@ pub record HeldIsSearched : Type 0 where
       → is_before hi lo ≡ false
       → lookup t.entries key ≡ Some value → is_between lo (Some hi) key ≡ true → admits_range lo hi t ≡ true
 
--- A get reads no more blocks than tables admit the key, and at most one where all tables stand on one level below level 0,
--- as behind a compaction.
+-- A get reads no more blocks than tables admit the key, and at most one where all tables are on one level below level 0,
+-- as after a compaction.
 pub record GetsAreBounded : Type 0 where
   pub few : (s : State) (key : Bytes) → get_bound s key ≤ admitted s key
   pub one_level :

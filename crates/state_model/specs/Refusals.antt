@@ -3,15 +3,17 @@ use Rattle.std.specs.Prelude.{ℕ, ◌≡◌, ◌≢◌, ◌⊎◌, ◌<◌, ◌
 use Rattle.filter_api.specs.declared.settings.Settings.{Settings}
 use Rattle.key_base.specs.Limits.{last_epoch, max_bound_bytes, max_key_bytes, max_level, max_tables, max_value_bytes}
 use Rattle.map_model.specs.SortedMap.{Bytes}
-use Rattle.entry_model.specs.Entries.{Entry, put_entry, del_entry, need, gap}
+use Rattle.entry_model.specs.Entries.{Entry, put_entry, del_entry, need}
+use Rattle.range_model.specs.Sources.{Sets, Source}
+use Rattle.state_model.specs.Logs.{gap_after}
 use Rattle.state_model.specs.State.{State, without_job}
-use Rattle.table_model.specs.Tables.{FilterBytes, Table, table_pages}
-use Rattle.state_model.specs.View.{memory, entries_of}
+use Rattle.table_model.specs.Tables.{FilterBytes, Table, source_pages}
+use Rattle.state_model.specs.View.{in_memory, memory, changes_of}
 use Rattle.extent_model.specs.Extents.{Extent}
 use Rattle.extent_model.specs.Gaps.{largest_gap}
 use Rattle.state_model.specs.Taken.{taken}
-use Rattle.state_model.specs.Merges.{NoRoom, placed, outputs_for}
-use Rattle.state_model.specs.Changes.{is_long, live_entries, logged}
+use Rattle.state_model.specs.Merges.{NoRoom, placed}
+use Rattle.state_model.specs.Changes.{compacted_outputs, is_long, logged}
 use Rattle.line_model.specs.Requests.{Request, Put, Del, Get, Seek, Range, Count, Estimate, Explain, Flush, Compact}
 use Rattle.line_model.specs.Replies.{Reply, LongKey, LongValue, ManyTables, LastEpoch, Full}
 use Rattle.state_model.specs.Steps.{answer}
@@ -28,7 +30,7 @@ is_refusal reply = false
 
 -- ---- limits
 
--- a key has one byte or more, and at most so many
+-- a key has one byte or more, and at most that many
 abbrev pub KeyFits : Bytes → Type 0
 KeyFits key = (1 ≤ length key) × (length key ≤ max_key_bytes)
 
@@ -66,7 +68,7 @@ pub data BreaksLimit (request : Request) : Reply → Type 0 where
 
 -- the record of an entry that is logged does not fit the log area, and there are memory entries
 abbrev pub IsWide : State → Entry → Type 0
-IsWide s entry = (gap s.log < need entry) × (memory s ≢ [])
+IsWide s entry = (gap_after s.log < need entry) × (memory s ≢ [])
 
 -- A long value is to be put, whatever is in memory; or there are memory entries, and a flush of them is asked for, or an entry
 -- whose record does not fit the log area.
@@ -76,22 +78,22 @@ FlushIsDue s (Del key) = IsWide s (del_entry key)
 FlushIsDue s Flush = memory s ≢ []
 FlushIsDue s request = ⊥
 
--- what is flushed where a flush is due: the memory entries, for a long value with its entry over them
-abbrev pub flushed_entries : State → Request → List Entry
-flushed_entries s (Put key value) = if is_long (put_entry key value) then memory (logged s (put_entry key value)) else memory s
-flushed_entries s request = memory s
+-- what is flushed where a flush is due: what is in memory, for a long value with its entry over it
+abbrev pub flushed_source : State → Request → Source
+flushed_source s (Put key value) = if is_long (put_entry key value) then in_memory (logged s (Sets (put_entry key value))) else in_memory s
+flushed_source s request = in_memory s
 
 -- a compaction of a store that is not empty is asked for
 abbrev pub CompactionIsDue : State → Request → Type 0
-CompactionIsDue s Compact = entries_of s ≢ []
+CompactionIsDue s Compact = changes_of s ≢ []
 CompactionIsDue s request = ⊥
 
 -- where the tables of a flush are put, and those of a compaction
 abbrev pub flush_places : FilterBytes → State → Request → Result (List Table) NoRoom
-flush_places filter_bytes s request = placed filter_bytes s.settings s.pages (taken s) 0 (flushed_entries s request ∷ [])
+flush_places filter_bytes s request = placed filter_bytes s.settings s.pages (taken s) 0 (flushed_source s request ∷ [])
 
 abbrev pub compaction_places : FilterBytes → State → Result (List Table) NoRoom
-compaction_places filter_bytes s = placed filter_bytes s.settings s.pages (taken (without_job s)) max_level (outputs_for s.tables (live_entries s))
+compaction_places filter_bytes s = placed filter_bytes s.settings s.pages (taken (without_job s)) max_level (compacted_outputs s)
 
 -- The causes for which a line is refused, and the reply by which it is. Limits come first. A flush asks for fewer tables
 -- than the most, then for room, then for a next epoch; a compaction asks for a next epoch, then for room.
@@ -120,13 +122,13 @@ pub record RefusalLaws : Type 0 where
   pub limits : (request : Request) (reply : Reply) → BreaksLimit request reply → limit_of request ≡ Some reply
   pub limits_only : (request : Request) (reply : Reply) → limit_of request ≡ Some reply → BreaksLimit request reply
   pub room :
-      (filter_bytes : FilterBytes) (settings : Settings) (pages : ℕ) (extents : List Extent) (level : ℕ) (outputs : List (List Entry)) (refusal : NoRoom)
+      (filter_bytes : FilterBytes) (settings : Settings) (pages : ℕ) (extents : List Extent) (level : ℕ) (outputs : List Source) (refusal : NoRoom)
       → placed filter_bytes settings pages extents level outputs ≡ Err refusal → refusal.gap < refusal.need
   pub flush_room :
       (filter_bytes : FilterBytes) (s : State) (request : Request)
-      → largest_gap s.pages (taken s) < table_pages filter_bytes s.settings (flushed_entries s request)
+      → largest_gap s.pages (taken s) < source_pages filter_bytes s.settings (flushed_source s request)
       → flush_places filter_bytes s request
-      ≡ Err (record { need = table_pages filter_bytes s.settings (flushed_entries s request); gap = largest_gap s.pages (taken s) })
+      ≡ Err (record { need = source_pages filter_bytes s.settings (flushed_source s request); gap = largest_gap s.pages (taken s) })
   pub flush_room_only :
       (filter_bytes : FilterBytes) (s : State) (request : Request) (refusal : NoRoom) → flush_places filter_bytes s request ≡ Err refusal
-      → refusal ≡ record { need = table_pages filter_bytes s.settings (flushed_entries s request); gap = largest_gap s.pages (taken s) }
+      → refusal ≡ record { need = source_pages filter_bytes s.settings (flushed_source s request); gap = largest_gap s.pages (taken s) }

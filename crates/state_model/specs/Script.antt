@@ -29,12 +29,12 @@ turn_of (Pairs found Device) = Over AtDevice
 turn_of (Pairs found (Damaged damage)) = Over AtDamage
 turn_of reply = Onward
 
--- a fault or damage in a merge slice ends the script; want of memory, of room or of an epoch is left for the next one
+-- a fault or damage in a merge slice ends the script; lack of memory, of room or of an epoch is left for the next one
 abbrev pub turn_of_slice : Tended → Turn
 turn_of_slice (Refused why) = turn_of why
 turn_of_slice tended = Onward
 
--- Behind each `put` and `del`, refused or not, comes one merge slice; behind other lines none.
+-- After each `put` and `del`, refused or not, comes one merge slice; after other lines none.
 abbrev pub Between : (Why → Type 0) → FilterBytes → Request → State → Turn → State → Type 0
 Between Cause filter_bytes (Put key value) s turn after = (tended : Tended) × Tend Cause filter_bytes s tended after × (turn ≡ turn_of_slice tended)
 Between Cause filter_bytes (Del key) s turn after = (tended : Tended) × Tend Cause filter_bytes s tended after × (turn ≡ turn_of_slice tended)
@@ -52,7 +52,7 @@ AsSaid (Over AtDamage) Holds = Unit {0}
 AsSaid turn Holds = Holds
 
 -- The lines are answered in order with this text, to the last of them, or to the first reply or merge slice that ends them. As
--- each reply has been said that is no fault, with so many bytes said by then, the state has R.
+-- each reply has been said that is no fault, with a given number of bytes said by then, the state has R.
 abbrev pub Script : (Why → Type 0) → FilterBytes → (ℕ → State → Type 0) → ℕ → State → List Bytes → Bytes → Ending → Type 0
 Script Cause filter_bytes R said s [] text ending = (text ≡ []) × (ending ≡ ToLast)
 Script Cause filter_bytes R said s (line ∷ more) text ending =
@@ -64,22 +64,22 @@ Script Cause filter_bytes R said s (line ∷ more) text ending =
 
 -- ---- some first lines
 
--- The lines are answered in order with this text, and no reply and no merge slice ends them; behind the last of them, and
--- its merge slice, stands this state. As each reply has been said, with so many bytes said by then, the state has R.
-abbrev pub WentOn : (Why → Type 0) → FilterBytes → (ℕ → State → Type 0) → ℕ → State → List Bytes → Bytes → State → Type 0
-WentOn Cause filter_bytes R said s [] text after = (text ≡ []) × (after ≡ s)
-WentOn Cause filter_bytes R said s (line ∷ more) text after =
+-- The lines are answered in order with this text, and no reply and no merge slice ends them; after the last of them, and
+-- its merge slice, comes this state. As each reply has been said, with a given number of bytes said by then, the state has R.
+abbrev pub AnsweredLines : (Why → Type 0) → FilterBytes → (ℕ → State → Type 0) → ℕ → State → List Bytes → Bytes → State → Type 0
+AnsweredLines Cause filter_bytes R said s [] text after = (text ≡ []) × (after ≡ s)
+AnsweredLines Cause filter_bytes R said s (line ∷ more) text after =
     (reply : Reply) × (rest : Bytes) × (new : State) × (next : State) × (text ≡ text_of reply ++ rest)
     × Step Cause filter_bytes s (request_of line) reply new × (turn_of reply ≡ Onward) × R (said + length (text_of reply)) new
     × Between Cause filter_bytes (request_of line) new Onward next
-    × WentOn Cause filter_bytes R (said + length (text_of reply)) next more rest after
+    × AnsweredLines Cause filter_bytes R (said + length (text_of reply)) next more rest after
 
--- Some first lines went on, and the one behind them was answered, with any reply; this is the text of all these replies.
--- This state stands behind the last of them: its merge slice is still to come. As it has been said, the state has R.
+-- Some first lines went on, and the one after them was answered, with any reply; this is the text of all these replies.
+-- This is the state after the last of them: its merge slice is still to come. As it has been said, the state has R.
 pub record LastAnswered (Cause : Why → Type 0) (filter_bytes : FilterBytes) (R : ℕ → State → Type 0) (said : ℕ) (s : State) (first : List Bytes) (last text : Bytes) (reply : Reply) (after : State) : Type 0 where
   pub early : Bytes
   pub before : State
-  pub went : WentOn Cause filter_bytes R said s first early before
+  pub went : AnsweredLines Cause filter_bytes R said s first early before
   pub step : Step Cause filter_bytes before (request_of last) reply after
   pub whole : text ≡ early ++ text_of reply
   pub holds : AsSaid (turn_of reply) (R (said + length text) after)
@@ -91,8 +91,8 @@ pub data Answers (Cause : Why → Type 0) (filter_bytes : FilterBytes) (R : ℕ 
       → LastAnswered Cause filter_bytes R said s first last text reply after
       → Answers Cause filter_bytes R said s (first ++ (last ∷ [])) text after
 
--- The script ends behind a line that was answered so: by the reply, or by the merge slice behind it.
-abbrev pub EndsThere : (Why → Type 0) → FilterBytes → Bytes → Reply → State → Ending → Type 0
-EndsThere Cause filter_bytes last reply after ending =
+-- The script ends after a line that was answered so: by the reply, or by the merge slice after it.
+abbrev pub ScriptEndsAt : (Why → Type 0) → FilterBytes → Bytes → Reply → State → Ending → Type 0
+ScriptEndsAt Cause filter_bytes last reply after ending =
     (turn_of reply ≡ Over ending)
     ⊎ ((turn_of reply ≡ Onward) × ((next : State) × Between Cause filter_bytes (request_of last) after (Over ending) next))

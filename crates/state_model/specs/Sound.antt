@@ -4,36 +4,39 @@ use Rattle.std.specs.List.{AllByRecursion, AllPairs, sum_by}
 use Rattle.filter_api.specs.declared.settings.Settings.{Settings}
 use Rattle.filter_api.specs.Ranges.{InRange}
 use Rattle.key_base.specs.Limits.{last_epoch, log_bytes, max_block_entries, max_device_pages, max_level, max_ratio, max_tables, min_device_pages}
-use Rattle.key_base.specs.ByteOrder.{IsBefore}
-use Rattle.entry_model.specs.Entries.{Entry, IsLogged, filled}
+use Rattle.range_model.specs.Ranges.{HasBounds}
+use Rattle.range_model.specs.Sources.{IsSource, Source}
+use Rattle.state_model.specs.Logs.{IsLoggedChange, filled_by}
 use Rattle.block_model.specs.Block.{IsTable}
 use Rattle.state_model.specs.State.{State, Job}
-use Rattle.table_model.specs.Tables.{FilterBytes, Table, table_of}
+use Rattle.table_model.specs.Tables.{FilterBytes, Table, as_source, table_from}
 use Rattle.extent_model.specs.Extents.{IsOnDevice, AreApart}
 use Rattle.state_model.specs.Taken.{taken}
-use Rattle.state_model.specs.Merges.{Plan, choose, planned, on_level, least_key, greatest_key}
+use Rattle.state_model.specs.Merges.{Plan, LiesBelow, choose, planned, on_level, least_key}
 
 -- a table has one entry or more, with strictly rising keys, and one block or more, each of a page or more and of not too
--- many entries; its settings are in range
+-- many entries; its ranges rise, begin at keys of the entries and have keys as bounds; its settings are in range
 pub record IsSoundTable (t : Table) : Type 0 where
   pub level : t.level ≤ max_level
   pub entries : IsTable t.entries
+  pub source : IsSource (as_source t)
+  pub bounds : AllByRecursion HasBounds t.ranges
   pub blocks : (1 ≤ t.blocks) × (t.blocks ≤ t.pages)
   pub few : length t.entries ≤ max_block_entries * t.blocks
   pub settings : InRange t.settings
   pub ratio : t.settings.ratio ≤ max_ratio
 
--- The one stands before the other: it is of a lesser level, or of the same one and then, below level 0, its keys come
--- before those of the other.
+-- The one comes before the other: it is of a lesser level, or of the same one and then, below level 0, all of it lies below
+-- the keys of the other.
 abbrev pub StandsBefore : Table → Table → Type 0
-StandsBefore t u = (t.level < u.level) ⊎ ((t.level ≡ u.level) × ((t.level ≡ 0) ⊎ IsBefore (greatest_key t) (least_key u)))
+StandsBefore t u = (t.level < u.level) ⊎ ((t.level ≡ u.level) × ((t.level ≡ 0) ⊎ LiesBelow t (least_key u)))
 
 -- these tables are made of the first of some outputs, one of each
-abbrev pub AreMade : FilterBytes → Settings → ℕ → List (List Entry) → List Table → Type 0
+abbrev pub AreMade : FilterBytes → Settings → ℕ → List Source → List Table → Type 0
 AreMade filter_bytes settings level outputs [] = Unit {0}
 AreMade filter_bytes settings level [] (t ∷ more) = ⊥
 AreMade filter_bytes settings level (output ∷ outputs) (t ∷ more) =
-    (t ≡ table_of filter_bytes settings level t.first_page output) × AreMade filter_bytes settings level outputs more
+    (t ≡ table_from filter_bytes settings level t.first_page output) × AreMade filter_bytes settings level outputs more
 
 -- the plan of a job
 abbrev pub plan_of_job : Job → Plan
@@ -57,8 +60,8 @@ pub record IsSound (filter_bytes : FilterBytes) (s : State) : Type 0 where
   pub ratio : s.settings.ratio ≤ max_ratio
   pub device : (min_device_pages ≤ s.pages) × (s.pages ≤ max_device_pages)
   pub epoch : (1 ≤ s.epoch) × (s.epoch ≤ last_epoch)
-  pub log : AllByRecursion IsLogged s.log
-  pub log_fits : filled s.log < log_bytes
+  pub log : AllByRecursion IsLoggedChange s.log
+  pub log_fits : filled_by s.log < log_bytes
   pub few : length s.tables ≤ max_tables
   pub tables : AllByRecursion IsSoundTable s.tables
   pub order : AllPairs StandsBefore s.tables

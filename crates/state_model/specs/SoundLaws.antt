@@ -7,7 +7,9 @@ use Rattle.filter_model.specs.Keys.{IsKeyList}
 use Rattle.byte_fields.specs.Spelling.{IsBytes}
 use Rattle.key_base.specs.Limits.{first_table_page, log_bytes, max_device_pages, max_ratio, max_tables, min_device_pages}
 use Rattle.map_model.specs.SortedMap.{Bytes}
-use Rattle.entry_model.specs.Entries.{Entry, IsEntry, filled, keys_of}
+use Rattle.entry_model.specs.Entries.{keys_of}
+use Rattle.range_model.specs.Sources.{Change, Source}
+use Rattle.state_model.specs.Logs.{IsChange, filled_by}
 use Rattle.state_model.specs.State.{State, Job, new_state, without_job}
 use Rattle.table_model.specs.Tables.{FilterBytes, Table}
 use Rattle.state_model.specs.View.{memory, state_map}
@@ -21,7 +23,7 @@ use Rattle.line_model.specs.Requests.{Request, request_of, Put, Del, Get, Seek, 
 use Rattle.line_model.specs.Replies.{Reply, ManyTables}
 use Rattle.state_model.specs.Steps.{Step}
 use Rattle.state_model.specs.Play.{played}
-use Rattle.state_model.specs.Script.{Ending, Script, WentOn, Answers}
+use Rattle.state_model.specs.Script.{Ending, Script, AnsweredLines, Answers}
 use Rattle.state_model.specs.PlayLaws.{Never, AnyState}
 use Rattle.state_model.specs.Tends.{Runs, Progresses, started, with_job, outstanding, Tended, Worked, Tend}
 use Rattle.state_model.specs.Sound.{IsSound, IsSoundTable}
@@ -29,8 +31,8 @@ use Rattle.state_model.specs.Sound.{IsSound, IsSoundTable}
 -- Outputs that are placed beside laid extents are laid with them.
 abbrev pub PlacedAreLaid : Type 0
 PlacedAreLaid =
-    (filter_bytes : FilterBytes) (settings : Settings) (pages : ℕ) (extents : List Extent) (level : ℕ) (outputs : List (List Entry)) (made : List Table)
-    → AllByRecursion (λ (output : List Entry). 1 ≤ length output) outputs → AreLaid pages extents
+    (filter_bytes : FilterBytes) (settings : Settings) (pages : ℕ) (extents : List Extent) (level : ℕ) (outputs : List Source) (made : List Table)
+    → AllByRecursion (λ (output : Source). 1 ≤ length output.entries) outputs → AreLaid pages extents
     → placed filter_bytes settings pages extents level outputs ≡ Ok made → AreLaid pages (map extent_of made ++ extents)
 
 -- a store as it is made is sound
@@ -44,11 +46,11 @@ abbrev pub FlushKeepsSound : Type 0
 FlushKeepsSound =
     (filter_bytes : FilterBytes) (s t : State) → IsSound filter_bytes s → flushed filter_bytes s ≡ Ok t → IsSound filter_bytes t
 
--- so does an entry that is written, logged or flushed over the memory entries
+-- so does a change that is written, logged or flushed over what is in memory
 abbrev pub WriteKeepsSound : Type 0
 WriteKeepsSound =
-    (filter_bytes : FilterBytes) (s t : State) (entry : Entry) → IsSound filter_bytes s → IsEntry entry
-    → written filter_bytes s entry ≡ Ok t → IsSound filter_bytes t
+    (filter_bytes : FilterBytes) (s t : State) (change : Change) → IsSound filter_bytes s → IsChange change
+    → written filter_bytes s change ≡ Ok t → IsSound filter_bytes t
 
 -- and a compaction
 abbrev pub CompactionKeepsSound : Type 0
@@ -93,7 +95,7 @@ ResetsHoldTheSame =
 abbrev pub Ever : Why → Type 0
 Ever why = Unit {0}
 
--- Whatever a merge slice is answered, the state behind it is sound.
+-- Whatever a merge slice is answered, the state after it is sound.
 abbrev pub SliceKeepsSound : Type 0
 SliceKeepsSound =
     (filter_bytes : FilterBytes) (s after : State) (tended : Tended) → IsSound filter_bytes s
@@ -142,13 +144,13 @@ LinesAreOfBytes = (line : Bytes) → SpeaksBytes (request_of line)
 abbrev pub SpeakingAsks : Type 0
 SpeakingAsks = (request : Request) → SpeaksBytes request → AsksOfBytes request
 
--- The state behind a line is sound too.
+-- The state after a line is sound too.
 abbrev pub LineKeepsSound : Type 0
 LineKeepsSound =
     (filter_bytes : FilterBytes) (s after : State) (request : Request) (reply : Reply) → IsSound filter_bytes s
     → AsksOfBytes request → Step Ever filter_bytes s request reply after → IsSound filter_bytes after
 
--- And so is the state behind all lines that are played.
+-- And so is the state after all lines that are played.
 abbrev pub PlayedIsSound : Type 0
 PlayedIsSound =
     (filter_bytes : FilterBytes) (s : State) (requests : List Request) → IsSound filter_bytes s
@@ -158,8 +160,8 @@ PlayedIsSound =
 abbrev pub WithSound : FilterBytes → (ℕ → State → Type 0) → ℕ → State → Type 0
 WithSound filter_bytes R said s = R said s × IsSound filter_bytes s
 
--- Each state of a script from a sound one is sound, as each reply has been said, and so is the state behind some first
--- lines, and behind the reply to the line after these.
+-- Each state of a script from a sound one is sound, as each reply has been said, and so is the state after some first
+-- lines, and after the reply to the line after these.
 pub record ScriptsKeepSound : Type 0 where
   pub script :
       (filter_bytes : FilterBytes) (said : ℕ) (s : State) (lines : List Bytes) (text : Bytes) (ending : Ending) → IsSound filter_bytes s
@@ -167,8 +169,8 @@ pub record ScriptsKeepSound : Type 0 where
       → Script Ever filter_bytes (WithSound filter_bytes AnyState) said s lines text ending
   pub first_lines :
       (filter_bytes : FilterBytes) (said : ℕ) (s after : State) (lines : List Bytes) (text : Bytes) → IsSound filter_bytes s
-      → WentOn Ever filter_bytes AnyState said s lines text after
-      → WentOn Ever filter_bytes (WithSound filter_bytes AnyState) said s lines text after × IsSound filter_bytes after
+      → AnsweredLines Ever filter_bytes AnyState said s lines text after
+      → AnsweredLines Ever filter_bytes (WithSound filter_bytes AnyState) said s lines text after × IsSound filter_bytes after
   pub answered :
       (filter_bytes : FilterBytes) (said : ℕ) (s after : State) (lines : List Bytes) (text : Bytes) → IsSound filter_bytes s
       → Answers Ever filter_bytes AnyState said s lines text after
@@ -180,7 +182,7 @@ pub record ScriptsKeepSound : Type 0 where
 -- flush is refused by the most tables and by no fewer.
 pub record LimitsAreKept : Type 0 where
   pub tables : (filter_bytes : FilterBytes) (s : State) → max_tables < length s.tables → IsSound filter_bytes s → ⊥
-  pub log : (filter_bytes : FilterBytes) (s : State) → log_bytes ≤ filled s.log → IsSound filter_bytes s → ⊥
+  pub log : (filter_bytes : FilterBytes) (s : State) → log_bytes ≤ filled_by s.log → IsSound filter_bytes s → ⊥
   pub first_page :
       (filter_bytes : FilterBytes) (s : State) (before more : List Table) (t : Table) → s.tables ≡ before ++ (t ∷ more) → t.first_page < first_table_page
       → IsSound filter_bytes s → ⊥

@@ -1,7 +1,7 @@
 -- The state of a store: what its log and its tables hold, and the merge that runs.
 use Rattle.std.specs.Prelude.{ℕ, List, [], Option, Some, None}
 use Rattle.filter_api.specs.declared.settings.Settings.{Settings}
-use Rattle.entry_model.specs.Entries.{Entry}
+use Rattle.range_model.specs.Sources.{Change}
 use Rattle.table_model.specs.Tables.{Table}
 
 -- A merge that runs: the tables that it merges, the level of the tables that it makes, how many blocks are still to
@@ -12,14 +12,14 @@ pub record Job : Type 0 where
   pub to_read : ℕ
   pub written : List Table
 
--- The settings are those of new tables. The log's entries stand in the order of writing. Of the tables, those of level 0 come first, the newest of them first;
+-- The settings are those of new tables. The log's changes are in the order of writing. Of the tables, those of level 0 come first, the newest of them first;
 -- then come the deeper levels, each by rising keys. Kept tables belong to no version, but their pages are taken: cursors still
--- read them. No cursor stands between two lines today; where cursors are a part of the state, what is kept is computed from them.
+-- read them. No cursor is between two lines today; where cursors are a part of the state, what is kept is computed from them.
 pub record State : Type 0 where
   pub settings : Settings
   pub pages : ℕ
   pub epoch : ℕ
-  pub log : List Entry
+  pub log : List Change
   pub tables : List Table
   pub job : Option Job
   pub kept : List Table

@@ -6,10 +6,11 @@ use Rattle.map_model.specs.SortedMap.{Map, get}
 use Rattle.entry_model.specs.Entries.{put_entry, del_entry}
 use Rattle.map_model.specs.Slices.{slice, seek, count}
 use Rattle.state_model.specs.State.{State, without_job}
-use Rattle.state_model.specs.View.{memory, entries_of, state_map}
+use Rattle.range_model.specs.Sources.{Sets}
+use Rattle.state_model.specs.View.{memory, changes_of, state_map}
 use Rattle.table_model.specs.Tables.{FilterBytes}
-use Rattle.state_model.specs.Changes.{written, flushed, compacted, live_entries}
-use Rattle.state_model.specs.Merges.{placed, outputs_for}
+use Rattle.state_model.specs.Changes.{written, flushed, compacted, compacted_outputs}
+use Rattle.state_model.specs.Merges.{placed}
 use Rattle.state_model.specs.Taken.{taken}
 use Rattle.line_model.specs.Limits.{limit_of}
 use Rattle.state_model.specs.Bounds.{get_bound, seek_bound, estimate, admitted, blocks_read}
@@ -33,8 +34,8 @@ pairs map = Pairs map (End (length map))
 
 -- the answer to a request that breaks no limit
 abbrev pub answer_within : FilterBytes → State → Request → Answer
-answer_within filter_bytes s (Put key value) = done_or_refused s (written filter_bytes s (put_entry key value))
-answer_within filter_bytes s (Del key) = done_or_refused s (written filter_bytes s (del_entry key))
+answer_within filter_bytes s (Put key value) = done_or_refused s (written filter_bytes s (Sets (put_entry key value)))
+answer_within filter_bytes s (Del key) = done_or_refused s (written filter_bytes s (Sets (del_entry key)))
 answer_within filter_bytes s (Get key) = (got (get (state_map s) key), s)
 answer_within filter_bytes s (Seek lo hi) = (found (seek (state_map s) lo hi), s)
 answer_within filter_bytes s (Range lo hi n) = (pairs (slice (state_map s) lo (Some hi) n), s)
@@ -55,14 +56,14 @@ answer filter_bytes s request = unless_limit (limit_of request) s (answer_within
 
 -- ---- what the state does not explain
 
--- the state behind a refused request: a compaction has dropped the job
+-- the state after a refused request: a compaction has dropped the job
 abbrev pub left_by : Request → State → State
 left_by Compact s = without_job s
 left_by request s = s
 
--- a compaction is begun where there are entries, and a next epoch
+-- a compaction is begun where there are changes, and a next epoch
 abbrev pub IsBegun : State → Type 0
-IsBegun s = (entries_of s ≢ []) × (s.epoch ≢ last_epoch)
+IsBegun s = (changes_of s ≢ []) × (s.epoch ≢ last_epoch)
 
 -- the requests that take memory: a flush where there is something to write, a compaction that is begun
 abbrev pub TakesMemory : State → Request → Type 0
@@ -78,10 +79,10 @@ TakesMemory s request = Unit {0}
 -- A put, a del and a flush write where they are not refused, a flush where there is something to flush. A compaction that
 -- is begun writes where its first table has room, also where it is refused in the end.
 abbrev pub Writes : FilterBytes → State → Request → Type 0
-Writes filter_bytes s (Put key value) = IsOk (written filter_bytes s (put_entry key value))
-Writes filter_bytes s (Del key) = IsOk (written filter_bytes s (del_entry key))
+Writes filter_bytes s (Put key value) = IsOk (written filter_bytes s (Sets (put_entry key value)))
+Writes filter_bytes s (Del key) = IsOk (written filter_bytes s (Sets (del_entry key)))
 Writes filter_bytes s Flush = (memory s ≢ []) × IsOk (flushed filter_bytes s)
-Writes filter_bytes s Compact = IsBegun s × IsOk (placed filter_bytes s.settings s.pages (taken (without_job s)) max_level (take 1 (outputs_for s.tables (live_entries s))))
+Writes filter_bytes s Compact = IsBegun s × IsOk (placed filter_bytes s.settings s.pages (taken (without_job s)) max_level (take 1 (compacted_outputs s)))
 Writes filter_bytes s request = ⊥
 
 -- A get, a closed seek and a count read where their bounds allow a block, and so does a range that asks for pairs; an open
@@ -101,7 +102,7 @@ said_before s (Range lo hi n) why reply = (reply ≡ why) ⊎ ((k : ℕ) × (k <
 said_before s request why reply = reply ≡ why
 
 -- From a state a request is answered so, and leaves that state. `Cause` says what must be so for what the state does not
--- explain. Behind a failed write the state has the map before the line or behind it.
+-- explain. After a failed write the state has the map before the line or after it.
 pub data Step (Cause : Why → Type 0) (filter_bytes : FilterBytes) (s : State) (request : Request) : Reply → State → Type 0 where
   answers : Step Cause filter_bytes s request (answer filter_bytes s request).0 (answer filter_bytes s request).1
   no_memory : limit_of request ≡ None → TakesMemory s request → Cause NoMemory → Step Cause filter_bytes s request Memory (left_by request s)

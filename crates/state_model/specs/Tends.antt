@@ -6,7 +6,7 @@ use Rattle.extent_model.specs.Extents.{Extent}
 use Rattle.filter_api.specs.declared.settings.Settings.{Settings}
 use Rattle.key_base.specs.Limits.{last_epoch}
 use Rattle.map_model.specs.Slices.{is_before}
-use Rattle.entry_model.specs.Entries.{Entry}
+use Rattle.range_model.specs.Sources.{Source}
 use Rattle.state_model.specs.State.{State, Job, without_job}
 use Rattle.table_model.specs.Tables.{FilterBytes, Table}
 use Rattle.state_model.specs.View.{state_map}
@@ -33,10 +33,10 @@ abbrev pub with_job : State → Job → State
 with_job s job = record s { job = Some job }
 
 -- the outputs that are not written yet
-abbrev pub outstanding : List Table → Job → List (List Entry)
+abbrev pub outstanding : List Table → Job → List Source
 outstanding tables job = drop (length job.written) (planned tables (plan_of_job job))
 
--- the next so many of them, placed on a device of so many pages beside the extents that are taken
+-- the next few of them, by a given number, placed on a device of a given number of pages beside the extents that are taken
 abbrev pub next_of : FilterBytes → Settings → ℕ → List Extent → List Table → Job → ℕ → Result (List Table) NoRoom
 next_of filter_bytes settings pages taken tables job n = placed filter_bytes settings pages taken job.output (take n (outstanding tables job))
 
@@ -75,7 +75,7 @@ inserted (t ∷ more) new = if goes_before new t then new ∷ t ∷ more else t 
 abbrev pub without : List Table → List Table → List Table
 without inputs tables = filter (λ (t : Table). not (list_any (λ (i : Table). i.first_page == t.first_page) inputs)) tables
 
--- the outputs stand in the place of the inputs
+-- the outputs take the place of the inputs
 abbrev pub installed_tables : List Table → Job → List Table
 installed_tables tables job = fold inserted (without job.inputs tables) job.written
 

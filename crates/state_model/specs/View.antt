@@ -1,37 +1,41 @@
 -- What a state says of a key, and the sorted map that it is.
-use Rattle.std.specs.Prelude.{List, [], ◌∷◌, ◌++◌, map, flat_map, reverse, Option, None}
-use Rattle.std.specs.Option.{option_or}
+use Rattle.std.specs.Prelude.{List, ◌∷◌, ◌++◌, map, Option}
 use Rattle.map_model.specs.SortedMap.{Bytes, Map}
-use Rattle.entry_model.specs.Entries.{Entry, map_of}
-use Rattle.entry_model.specs.Newest.{newest_entries, lookup}
+use Rattle.entry_model.specs.Entries.{Entry}
+use Rattle.range_model.specs.Sources.{Change, Source, source_of, first_said}
+use Rattle.range_model.specs.ChangedMaps.{map_of_changes}
+use Rattle.range_model.specs.Hiding.{oldest_changes}
 use Rattle.state_model.specs.State.{State}
-use Rattle.table_model.specs.Tables.{Table}
+use Rattle.table_model.specs.Tables.{Table, as_source}
 
--- the memory entries: the log's last entry for each key, by rising keys
+-- what is in memory: the log's last entry for each key, but for those that a later range of it covers, and its ranges
+abbrev pub in_memory : State → Source
+in_memory s = source_of s.log
+
+-- the memory entries, by rising keys
 abbrev pub memory : State → List Entry
-memory s = newest_entries s.log
+memory s = (in_memory s).entries
 
--- where entries are looked for, the newest first
-abbrev pub sources : State → List (List Entry)
-sources s = memory s ∷ map (λ (t : Table). t.entries) s.tables
+-- the tables as sources
+abbrev pub sources_of : List Table → List Source
+sources_of tables = map as_source tables
 
--- what the first of them that has the key says of it
-abbrev pub first_found : List (List Entry) → Bytes → Option (Option Bytes)
-first_found [] key = None
-first_found (entries ∷ older) key = option_or (lookup entries key) (first_found older key)
+-- where a key is looked for, the newest first
+abbrev pub sources : State → List Source
+sources s = in_memory s ∷ sources_of s.tables
 
 -- what the state says of the key: a value, a tombstone, or nothing
 abbrev pub view : State → Bytes → Option (Option Bytes)
-view s key = first_found (sources s) key
+view s key = first_said (sources s) key
 
--- the entries of tables, the oldest first
-abbrev pub oldest_first : List Table → List Entry
-oldest_first tables = flat_map (λ (t : Table). t.entries) (reverse tables)
+-- the changes of tables, the oldest first
+abbrev pub oldest_first : List Table → List Change
+oldest_first tables = oldest_changes (sources_of tables)
 
--- all entries of the state, the oldest first
-abbrev pub entries_of : State → List Entry
-entries_of s = oldest_first s.tables ++ s.log
+-- all changes of the state, the oldest first
+abbrev pub changes_of : State → List Change
+changes_of s = oldest_first s.tables ++ s.log
 
 -- the sorted map that the state is
 abbrev pub state_map : State → Map
-state_map s = map_of (entries_of s)
+state_map s = map_of_changes (changes_of s)

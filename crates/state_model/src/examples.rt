@@ -4,9 +4,10 @@ ghost use Rattle.byte_fields.specs.declared.parts.Part.TheVariants.{Block};
 ghost use Rattle.byte_fields.specs.declared.parts.Damage.TheVariants.{Shape, Sum};
 ghost use Rattle.entry_model.specs.Entries.{put_entry};
 ghost use Rattle.map_model.specs.SortedMap.{get};
+ghost use Rattle.range_model.specs.Sources.{Sets};
 ghost use Rattle.state_model.specs.PlayLaws.{played_text};
 ghost use Rattle.state_model.specs.Resets.{with_pages, with_settings};
-ghost use Rattle.state_model.specs.Script.{Answers, AtDamage, AtDevice, AtQuit, Onward, Over, Script, WentOn, turn_of, turn_of_slice};
+ghost use Rattle.state_model.specs.Script.{Answers, AtDamage, AtDevice, AtQuit, Onward, Over, Script, AnsweredLines, turn_of, turn_of_slice};
 ghost use Rattle.state_model.specs.Sound.{IsLeft};
 ghost use Rattle.state_model.specs.SoundLaws.{SpeaksBytes};
 ghost use Rattle.state_model.specs.Steps.{Reads, TakesMemory, Writes, said_before};
@@ -71,7 +72,7 @@ pub fn reads_between_keys()
     ensures pairs_between_two_keys { (played one_byte small_store (Put (key 0x61) [] ∷ Put (key 0x62) (1 ∷ []) ∷ Range [] (key 0x7a) 1 ∷ Range [] (key 0x7a) 0 ∷ Seek (key 0x63) None ∷ Seek (key 0x62) (Some (key 0x61)) ∷ Seek [] None ∷ Quit ∷ Flush ∷ [])).0 ≡ Done ∷ Done ∷ Pairs ((key 0x61, []) ∷ []) (End 1) ∷ Pairs [] (End 0) ∷ Missing ∷ Missing ∷ At (key 0x61) [] ∷ Bye ∷ [] }
 {}
 
-/// Where want of memory, a failed read and a failed write may be met, and what these leave.
+/// Where lack of memory, a failed read and a failed write may be met, and what these leave.
 #[tactic(auto, unfolding(block_model::specs::Pages::pages_for, block_model::specs::Bodies::entries_bytes, block_model::specs::Pages::block_length, block_model::specs::Pages::block_pages, block_model::specs::Pages::blocks_of, block_model::specs::Pages::data_pages, block_model::specs::Pages::index_length, entry_model::specs::Entries::filled, entry_model::specs::Entries::gap, key_base::specs::Limits::last_epoch))]
 pub fn where_faults_are_met()
     ensures a_get_reads_a_table { Reads (played one_byte small_store two_values).1 (Get (key 0x61)) }
@@ -79,11 +80,11 @@ pub fn where_faults_are_met()
     ensures a_range_of_no_pairs_reads_nothing { Reads (played one_byte small_store two_values).1 (Range [] (key 0x7a) 0) → ⊥ }
     ensures a_flush_of_nothing_takes_no_memory { TakesMemory small_store Flush → ⊥ }
     ensures one_of_an_entry_writes { Writes one_byte (played one_byte small_store (put_one 0x61 ∷ [])).1 Flush }
-    ensures but_not_at_the_last_epoch { Writes one_byte (record small_store { epoch = 18446744073709551615; log = put_entry (key 0x61) (1 ∷ []) ∷ [] }) Flush → ⊥ }
+    ensures but_not_at_the_last_epoch { Writes one_byte (record small_store { epoch = 18446744073709551615; log = Sets (put_entry (key 0x61) (1 ∷ [])) ∷ [] }) Flush → ⊥ }
     ensures a_range_has_said_its_first_pairs { said_before (played one_byte small_store (put_one 0x61 ∷ put_one 0x62 ∷ [])).1 (Range [] (key 0x7a) 2) Device (Pairs ((key 0x61, 1 ∷ []) ∷ []) Device) }
     ensures a_failed_write_leaves_the_store_or_another { IsLeft one_byte small_store small_store }
     ensures but_no_job { IsLeft one_byte small_store (with_job small_store (started (record { inputs = []; output = 1 }))) → ⊥ }
-    ensures a_flush_goes_on { WentOn (λ why. ⊥) one_byte (λ said s. ⊤) 0 small_store (codes "flush" ∷ []) (codes "ok" ++ 10 ∷ []) small_store }
+    ensures a_flush_goes_on { AnsweredLines (λ why. ⊥) one_byte (λ said s. ⊤) 0 small_store (codes "flush" ∷ []) (codes "ok" ++ 10 ∷ []) small_store }
 {}
 
 /// What reads: what a filter admits, and what it does not deny, such as an open seek.
@@ -122,8 +123,8 @@ pub fn where_something_is_written()
     ensures a_put { Writes one_byte small_store (put_one 0x61) }
     ensures a_del { Writes one_byte small_store (Del (key 0x61)) }
     ensures a_compaction { Writes one_byte (played one_byte small_store (put_one 0x61 ∷ [])).1 Compact }
-    ensures not_one_at_the_last_epoch { Writes one_byte (record small_store { epoch = 18446744073709551615; log = put_entry (key 0x61) (1 ∷ []) ∷ [] }) Compact → ⊥ }
-    ensures which_takes_no_memory { TakesMemory (record small_store { epoch = 18446744073709551615; log = put_entry (key 0x61) (1 ∷ []) ∷ [] }) Compact → ⊥ }
+    ensures not_one_at_the_last_epoch { Writes one_byte (record small_store { epoch = 18446744073709551615; log = Sets (put_entry (key 0x61) (1 ∷ [])) ∷ [] }) Compact → ⊥ }
+    ensures which_takes_no_memory { TakesMemory (record small_store { epoch = 18446744073709551615; log = Sets (put_entry (key 0x61) (1 ∷ [])) ∷ [] }) Compact → ⊥ }
     ensures a_compaction_of_an_entry_takes_memory { TakesMemory (played one_byte small_store (put_one 0x61 ∷ [])).1 Compact }
     ensures so_does_a_put { TakesMemory small_store (put_one 0x61) }
 {}
@@ -152,7 +153,7 @@ pub fn what_is_not_of_bytes()
 /// Lines that were answered, the last with a reply that ends a script.
 #[tactic(auto, unfolding(block_model::specs::Pages::pages_for, block_model::specs::Bodies::entries_bytes, block_model::specs::Pages::block_length, block_model::specs::Pages::block_pages, block_model::specs::Pages::blocks_of, block_model::specs::Pages::data_pages, block_model::specs::Pages::index_length, entry_model::specs::Entries::filled, entry_model::specs::Entries::gap, key_base::specs::Limits::last_epoch, hex::specs::Hex::decode_pairs))]
 pub fn lines_that_were_answered()
-    ensures a_put_goes_on { WentOn (λ why. ⊥) one_byte (λ said s. ⊤) 0 small_store (codes "put 61 62" ∷ []) (codes "ok" ++ 10 ∷ []) (played one_byte small_store (Put (key 0x61) (0x62 ∷ []) ∷ [])).1 }
+    ensures a_put_goes_on { AnsweredLines (λ why. ⊥) one_byte (λ said s. ⊤) 0 small_store (codes "put 61 62" ∷ []) (codes "ok" ++ 10 ∷ []) (played one_byte small_store (Put (key 0x61) (0x62 ∷ []) ∷ [])).1 }
     ensures and_a_quit_is_answered { Answers (λ why. ⊥) one_byte (λ said s. ⊤) 0 small_store (codes "put 61 62" ∷ codes "quit" ∷ []) (codes "ok" ++ 10 ∷ codes "bye" ++ 10 ∷ []) (played one_byte small_store (Put (key 0x61) (0x62 ∷ []) ∷ [])).1 }
     ensures a_fault_answers_in_any_state { Answers (λ why. ⊤) one_byte (λ said s. ⊥) 0 (played one_byte small_store two_values).1 (codes "get 61" ∷ []) (codes "device" ++ 10 ∷ []) (played one_byte small_store two_values).1 }
 {}
@@ -171,7 +172,7 @@ pub fn played_texts()
     ensures of_bad_lines { played_text one_byte small_store (codes "flash" ∷ codes "get 6" ∷ []) ≡ codes "bad 2" ++ 10 ∷ codes "bad 4" ++ 10 ∷ [] }
 {}
 
-/// The replies behind which a script ends.
+/// The replies after which a script ends.
 #[tactic(auto)]
 pub fn last_replies()
     ensures of_lines { map (λ reply. turn_of reply) (Done ∷ Memory ∷ Bye ∷ Device ∷ Damaged (Shape Block 3 1) ∷ Pairs [] Device ∷ Pairs [] (Damaged (Shape Block 3 1)) ∷ [])

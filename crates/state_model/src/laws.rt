@@ -5,6 +5,7 @@ ghost use Rattle.state_model.specs.Laws.{ViewLaws, ChangeLaws, InstallLaws, Merg
 ghost use Rattle.state_model.specs.PlayLaws.{AnswersGoOn, OthersHaveNoSlice, PlayLaws, SlicesAreAllowed, ScriptsGoOn, ScriptsThatEnd, ScriptsToLast};
 ghost use Rattle.state_model.specs.ReadLaws.{HeldIsSearched, GetsAreBounded, NothingIsRead, SteppedAreDeleted, EstimateIsEnough};
 ghost use Rattle.state_model.specs.Refusals.{RefusalLaws};
+ghost use Rattle.state_model.specs.WithoutRanges.{WithoutRanges};
 ghost use Rattle.state_model.specs.SoundLaws.{PlacedAreLaid, SettingsKeepSound, PagesKeepSound, ResetsHoldTheSame, NewIsSound, FlushKeepsSound, WriteKeepsSound, CompactionKeepsSound, WorkKeepsSound, DropKeepsSound, SliceKeepsSound, SliceKeepsMap, NeverTends, NeverSteps, PlayedIsSound, LinesAreOfBytes, SpeakingAsks, LineKeepsSound, StepsAtFirst, WorkedLowersSteps, LinesRaiseNoSteps, JobEnds, ScriptsKeepSound, LimitsAreKept, KeysAreAList};
 
 /// Law: the map of a sound state has at each key what its view says: the memory first, then the tables in their order.
@@ -12,14 +13,14 @@ pub fn view_laws()
     ensures { ViewLaws }
 {}
 
-/// Law: a flush and a compaction keep the map, a written entry makes its change of it, and no line that is not answered
+/// Law: a flush and a compaction keep the map, a written change is made of it, and no line that is not answered
 /// as done changes it.
 pub fn change_laws()
     ensures { ChangeLaws }
 {}
 
 /// Law: what a merge writes says what its inputs say, tombstones apart where no table lies deeper; it is cut in order,
-/// into no more outputs than inputs, none of them empty.
+/// into no more outputs than inputs, each of them sound and none empty.
 pub fn merge_laws()
     ensures { MergeLaws }
 {}
@@ -52,7 +53,7 @@ pub fn held_is_searched()
     ensures { HeldIsSearched }
 {}
 
-/// Law: a get reads at most as many blocks as tables admit its key, and behind a compaction at most one.
+/// Law: a get reads at most as many blocks as tables admit its key, and after a compaction at most one.
 pub fn gets_are_bounded()
     ensures { GetsAreBounded }
 {}
@@ -78,12 +79,12 @@ pub fn slices_are_allowed()
     ensures { SlicesAreAllowed }
 {}
 
-/// Law: a merge slice comes behind a put and a del alone; behind any other line the state stays and the script goes on.
+/// Law: a merge slice comes after a put and a del alone; after any other line the state stays and the script goes on.
 pub fn others_have_no_slice()
     ensures { OthersHaveNoSlice }
 {}
 
-/// Law: first lines that went on, and a script from the state behind them, are a script.
+/// Law: first lines that went on, and a script from the state after them, are a script.
 pub fn scripts_go_on()
     ensures { ScriptsGoOn }
 {}
@@ -94,7 +95,7 @@ pub fn answers_go_on()
 {}
 
 /// Law: a script that ends before its last line has answered some first lines, with all that it says, and ends at the last
-/// of them, by its reply or by the merge slice behind it.
+/// of them, by its reply or by the merge slice after it.
 pub fn scripts_that_end()
     ensures { ScriptsThatEnd }
 {}
@@ -114,7 +115,7 @@ pub fn new_is_sound()
     ensures { NewIsSound }
 {}
 
-/// Law: a flush and an entry that is written keep soundness.
+/// Law: a flush and a change that is written keep soundness.
 pub fn changes_keep_sound()
     ensures flush { FlushKeepsSound }
     ensures write { WriteKeepsSound }
@@ -160,7 +161,7 @@ pub fn lines_keep_sound()
     ensures asks { SpeakingAsks }
 {}
 
-/// Law: a job of so many blocks and so many outputs sees at most these and one more answers of a merge slice that worked.
+/// Law: a job of a given number of blocks and a given number of outputs sees at most these and one more answers of a merge slice that worked.
 pub fn jobs_end()
     ensures first { StepsAtFirst }
     ensures lower { WorkedLowersSteps }
@@ -168,7 +169,7 @@ pub fn jobs_end()
     ensures ends { JobEnds }
 {}
 
-/// Law: each state of a script from a sound one is sound, and so is the state behind some first lines, and behind the reply
+/// Law: each state of a script from a sound one is sound, and so is the state after some first lines, and after the reply
 /// to the next.
 pub fn scripts_keep_sound()
     ensures { ScriptsKeepSound }
@@ -185,7 +186,7 @@ pub fn keys_are_a_list()
     ensures { KeysAreAList }
 {}
 
-/// Law: want of memory is met by no get, a failed read and damage by no put, del and flush, a failed write by nothing that
+/// Law: lack of memory is met by no get, a failed read and damage by no put, del and flush, a failed write by nothing that
 /// asks for no change. An estimate and an explain have their answers, whatever may be met.
 pub fn faults_are_met()
     ensures { FaultsAreMet }
@@ -202,7 +203,7 @@ pub fn nothing_is_read()
     ensures { NothingIsRead }
 {}
 
-/// Law: no job runs behind a compaction, however it is answered, nor behind a merge slice that is refused.
+/// Law: no job runs after a compaction, however it is answered, nor after a merge slice that is refused.
 pub fn no_job_is_left()
     ensures { NoJobIsLeft }
 {}
@@ -213,8 +214,8 @@ pub fn device_is_kept()
 {}
 
 /// Law: a failed write apart, a line has its answer, or tells of a fault and changes nothing, but that a compaction drops
-/// the job; so the map changes by the lines that are answered as done alone. Behind a failed write stands the map before
-/// the line or behind it. A quit and a bad line always have their answers.
+/// the job; so the map changes by the lines that are answered as done alone. After a failed write holds the map before
+/// the line or after it. A quit and a bad line always have their answers.
 pub fn steps_are_answers()
     ensures { StepsAreAnswers }
 {}
@@ -230,7 +231,7 @@ pub fn slices_write()
     ensures { SlicesWrite }
 {}
 
-/// Law: each cause has its own reply: where it alone may be met, a line has its answer or tells of it, a range behind its
+/// Law: each cause has its own reply: where it alone may be met, a line has its answer or tells of it, a range after its
 /// first pairs, and changes nothing. What breaks a limit is answered by that limit, whatever may be met.
 pub fn causes_have_replies()
     ensures { CausesHaveReplies }
@@ -253,4 +254,10 @@ pub fn replies_have_causes()
 /// job that is done, and for room only with the numbers of its next output.
 pub fn slices_have_reasons()
     ensures { SlicesHaveReasons }
+{}
+
+/// Law: where the log sets entries and no table has a range, memory and merges are the newest entries, outputs are entries
+/// alone, and tables meet by their keys.
+pub fn without_ranges()
+    ensures { WithoutRanges }
 {}

@@ -1,19 +1,20 @@
 //! The store's meaning: its state, what each line makes of it, and what it may read.
 //!
-//! A state is the log's entries, the tables in their levels, and the merge that runs; the map that it is follows
-//! (`View`). `Changes`, `Merges` and `Tends` say what a flush, a merge and a compaction make of it, `Steps` and `Script`
+//! A state is the log's changes, the tables in their levels, and the merge that runs; the map that it is follows
+//! (`View`). A change sets an entry or deletes a range of keys; no command deletes a range yet. `Changes`, `Merges` and `Tends` say what a flush, a merge and a compaction make of it, `Steps` and `Script`
 //! what lines are answered, `Bounds` how many blocks a read may cost. `Play` computes one of the runs that `Script`
 //! allows. The functions here do nothing: they carry the laws of these definitions, and examples of them. An example
 //! computes, so it costs as much as its lists are long. Which state a device holds is said by `image_model`; a store
 //! that runs is not here.
 //!
 //! ```text
-//! -- the replies, and the state behind them
+//! -- the replies, and the state after them
 //! played filter_bytes (new_state settings 512) (Put key value ∷ Flush ∷ Get key ∷ [])
 //! ```
 #![tactic(auto)]
 
 pub mod counted;
+pub mod deleted_ranges;
 pub mod examples;
 mod laws;
 pub mod long_values;
@@ -27,5 +28,5 @@ pub use laws::{
     replies_have_causes, resets_keep_sound, scripts_go_on, scripts_keep_sound, scripts_that_end,
     scripts_to_last, slices_are_allowed, slices_have_reasons, slices_have_replies,
     slices_keep_sound, slices_read_blocks, slices_write, stepped_are_deleted, steps_are_answers,
-    view_laws,
+    view_laws, without_ranges,
 };

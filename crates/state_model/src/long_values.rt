@@ -8,7 +8,7 @@ ghost use Rattle.line_model.specs.Requests.{Del, Get, Put};
 ghost use Rattle.state_model.specs.Changes.{is_long};
 ghost use Rattle.state_model.specs.Examples.{key, long_put, one_byte, place_and_size, put_one, small_store, table_at};
 ghost use Rattle.state_model.specs.Play.{played};
-ghost use Rattle.state_model.specs.Refusals.{FlushIsDue, flushed_entries};
+ghost use Rattle.state_model.specs.Refusals.{FlushIsDue, flushed_source};
 ghost use Rattle.state_model.specs.Steps.{answer};
 
 /// Which values are long, and what is flushed for them.
@@ -17,8 +17,8 @@ pub fn which_values_are_long()
     ensures the_longest_that_is_logged { map is_long (put_entry (key 0x61) (replicate 65536 0) ∷ put_entry (key 0x61) (replicate 65537 0) ∷ []) ≡ false ∷ true ∷ [] }
     ensures which_is_no_limit { map (λ n. value_limit (replicate n 0)) (65536 ∷ 65537 ∷ []) ≡ None ∷ None ∷ [] }
     ensures a_flush_is_due_over_an_empty_memory { FlushIsDue small_store (long_put 0x61) }
-    ensures of_this_entry { map (λ e. e.key) (flushed_entries small_store (long_put 0x61)) ≡ key 0x61 ∷ [] }
-    ensures or_of_the_memory_with_it { map (λ e. e.key) (flushed_entries (played one_byte small_store (put_one 0x62 ∷ put_one 0x60 ∷ [])).1 (long_put 0x61)) ≡ key 0x60 ∷ key 0x61 ∷ key 0x62 ∷ [] }
+    ensures of_this_entry { map (λ e. e.key) (flushed_source small_store (long_put 0x61)).entries ≡ key 0x61 ∷ [] }
+    ensures or_of_the_memory_with_it { map (λ e. e.key) (flushed_source (played one_byte small_store (put_one 0x62 ∷ put_one 0x60 ∷ [])).1 (long_put 0x61)).entries ≡ key 0x60 ∷ key 0x61 ∷ key 0x62 ∷ [] }
     ensures pages_of_a_table_of_the_longest { pages_for (10 + 9 + 1 + 1048576) + 1 + 1 ≡ 259 }
 {}
 

@@ -22,12 +22,14 @@ use Rattle.merge_rows.specs.Merges.{Merge, merge_from, numbered, rows_left}
 use Rattle.merge_rows.specs.Rows.{merged_rows, rows_shown}
 use Rattle.merge_rows.specs.Steps.{AreNumbersIn, IsSoundMerge}
 use Rattle.state_model.proofs.SameMaps.{one_map}
-use Rattle.state_model.proofs.Sayings.{AllRise, lists_of, newest_entries_rise, newest_of_rising}
-use Rattle.state_model.proofs.SoundLogs.{newest_few}
+use Rattle.state_model.proofs.Sayings.{AllRise, lists_of, newest_of_rising, source_sound}
+use Rattle.state_model.proofs.SoundLogs.{newest_few, source_few}
 use Rattle.state_model.proofs.Views.{tables_rise, view_says}
+use Rattle.state_model.proofs.WithoutRanges.{map_alone, view_alone}
 use Rattle.state_model.specs.Sound.{IsSound}
 use Rattle.state_model.specs.State.{State}
-use Rattle.state_model.specs.View.{entries_of, first_found, memory, state_map}
+use Rattle.state_model.specs.View.{memory, state_map}
+use Rattle.state_model.specs.WithoutRanges.{HasOnlyEntries, first_found, table_entries}
 use Rattle.store_check.specs.Summaries.{AreTablesThere, entries_in, numbers_below}
 use Rattle.table_file.specs.Opened.{Opened}
 use Rattle.table_model.specs.Tables.{FilterBytes, Table}
@@ -166,14 +168,15 @@ said_first (entries ∷ older) key rise =
     ap (λ (o : Option (Option Bytes)). option_or o (said_by older key)) (newest_of_rising entries key rise.0)
     ∙ ap (option_or (lookup entries key)) (said_first older key rise.1)
 
-module _ (filter_bytes : FilterBytes) (s : State) (sound : IsSound filter_bytes s) where
+module _ (filter_bytes : FilterBytes) (s : State) (sound : IsSound filter_bytes s) (entries : List Entry) (only : HasOnlyEntries s entries) where
   abbrev all_lists : List (List Entry)
   all_lists = memory s ∷ lists_of s.tables
 
   pairs_are : pairs_of (merged_rows all_lists) ≡ state_map s
-  pairs_are = one_map (pairs_of (merged_rows all_lists)) (state_map s) (pairs_rise (merged_rows all_lists) (merged_rises all_lists)) (entries_rise [] (entries_of s) tt)
+  pairs_are = one_map (pairs_of (merged_rows all_lists)) (state_map s) (pairs_rise (merged_rows all_lists) (merged_rises all_lists))
+      (subst Rises (sym (map_alone s entries only)) (entries_rise [] (table_entries s.tables ++ entries) tt))
       (λ key. pairs_say (merged_rows all_lists) key (merged_rises all_lists)
-      ∙ ap live (merged_says all_lists key ∙ said_first all_lists key (newest_entries_rise s.log, tables_rise s.tables sound.tables))
+      ∙ ap live (merged_says all_lists key ∙ said_first all_lists key ((source_sound s.log).rises, tables_rise s.tables sound.tables) ∙ sym (view_alone s entries key only))
       ∙ sym (view_says filter_bytes s key sound))
 
   module _ (merges : StandingMerges) (spelling : Spelling) (image : Image) (opened : List Opened) (there : AreTablesThere spelling opened s.tables image) where
@@ -182,7 +185,7 @@ module _ (filter_bytes : FilterBytes) (s : State) (sound : IsSound filter_bytes 
 
     whole : MergesAreWhole (numbers_below (length opened)) opened (Some (memory s)) [] true image (all_blocks spelling image opened s.tables there)
     whole = merges spelling opened image (numbers_below (length opened)) (all_blocks spelling image opened s.tables there) (Some (memory s)) [] true
-        (stand_behind spelling image [] opened s.tables there) (newest_entries_rise s.log)
+        (stand_behind spelling image [] opened s.tables there) (source_sound s.log).rises
 
     pub merge_is_sound : IsSoundMerge all_merged opened image
     merge_is_sound = whole.sound
@@ -207,5 +210,5 @@ module _ (filter_bytes : FilterBytes) (s : State) (sound : IsSound filter_bytes 
       joined_many all_lists,
       sum_by-cons (length {A = Entry}) (memory s) (lists_of s.tables),
       lists_many s.tables,
-      newest_few s.log,
+      source_few s.log,
     )

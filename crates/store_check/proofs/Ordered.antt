@@ -85,6 +85,6 @@ greatest (row ∷ next ∷ later) =
 pub range_read : (row : Row) (image : Image) (index : Option RowIndex) → IsIndexRead row image index → option_map range_of_index index ≡ range_in image row (has_sound_index row image)
 range_read row image None is = ap (λ (o : Option Damage). range_in image row (is_none o)) (sym is.1)
 range_read row image (Some x) is =
-    (λ i. Some (record { level = (is.0 i).level; least = (is.1.index_is i).least; greatest = greatest x.index.rows i }))
-    ∙ ap (λ (x : Index). Some (record { level = row.level; least = (key_range_of image row).least; greatest = greatest_in x.rows })) is.1.index_is
+    (λ i. Some (record { level = (is.0 i).level; least = (is.1.index_is i).least; greatest = greatest x.index.rows i; reach = [] }))
+    ∙ ap (λ (x : Index). Some (record { level = row.level; least = (key_range_of image row).least; greatest = greatest_in x.rows; reach = [] })) is.1.index_is
     ∙ ap (λ (o : Option Damage). range_in image row (is_none o)) (sym is.1.none)

@@ -131,7 +131,7 @@ sound_first m is slot = record {
   broken = λ number none. absurd cc;
 }
 
--- ---- behind the last row
+-- ---- after the last row
 
 behind_rows : (front : List Row) (n : ℕ) → slice_get front n ≡ None → length front ≤ n
 behind_rows [] n is = omega arith

@@ -19,7 +19,7 @@ use Rattle.table_model.specs.Images.{IsTableOf}
 use Rattle.table_model.specs.Tables.{Table}
 
 module _ (spelling : Spelling) (image : Image) where
-  -- the table of the row at a place, behind those before it
+  -- the table of the row at a place, after those before it
   pub record NextTable (rows : List Row) (tables : List Table) (i : ℕ) (no_row : Row) : Type 0 where
     pub t : Table
     pub taken : take (suc i) tables ≡ take i tables ++ t ∷ []

@@ -25,7 +25,7 @@ waiting c = drop c.place c.found.items
 abbrev pub rows_left : Manifest → TableOrder → List Row
 rows_left m order = drop order.rows m.version.rows
 
--- of a part on, what is found there and behind it
+-- of a part on, what is found there and after it
 abbrev pub PartsLeft : Spelling → (Bytes → Fault) → Image → Manifest → TableOrder → Stage → List Finding → Type 0
 PartsLeft spelling first_fault image m order stage.Rows findings =
     (of_rows : List Finding) × (of_log : List Finding) × RowsFindings spelling (filter_fault_of first_fault) image (rows_left m order) of_rows
@@ -71,7 +71,7 @@ row_at_hand c = option_and_then (λ (m : Manifest). slice_get m.version.rows c.o
 
 -- ---- how far it is
 
--- so many parts are not looked at yet
+-- a given number of parts are not looked at yet
 abbrev pub parts_behind : Stage → ℕ
 parts_behind stage.Rows = 3
 parts_behind stage.Ranges = 2

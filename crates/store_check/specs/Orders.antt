@@ -27,7 +27,7 @@ no_tables = record { rows = 0; before = None; broken = None }
 
 -- where the keys of an index that was read lie
 abbrev pub range_of_index : RowIndex → KeyRange
-range_of_index x = record { level = x.row.level; least = x.index.least; greatest = (row_at x.index.rows (length x.index.rows - 1)).last }
+range_of_index x = record { level = x.row.level; least = x.index.least; greatest = (row_at x.index.rows (length x.index.rows - 1)).last; reach = [] }
 
 -- a row does not follow the one before it, where both indexes are sound
 abbrev pub is_out_of_order : Option KeyRange → Option KeyRange → Bool

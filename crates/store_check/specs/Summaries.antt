@@ -67,7 +67,7 @@ AreTablesThere spelling [] [] image = Unit {0}
 AreTablesThere spelling (opened ∷ more) (t ∷ tables) image = IsTableThere spelling opened t image × AreTablesThere spelling more tables image
 AreTablesThere spelling opened tables image = ⊥
 
--- the numbers of so many tables, the greatest first
+-- the numbers of a given number of tables, the greatest first
 abbrev pub numbers_below : ℕ → List ℕ
 numbers_below zero = []
 numbers_below (suc n) = n ∷ numbers_below n

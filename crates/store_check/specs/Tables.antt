@@ -34,6 +34,6 @@ abbrev pub IsIndexRead : Row → Image → Option RowIndex → Type 0
 IsIndexRead row image None = (d : Damage) × (index_damage row image ≡ Some d)
 IsIndexRead row image (Some x) = (x.row ≡ row) × IsReadIndex row image x
 
--- so many entries of blocks that are all sound, or are not
+-- a given number of entries of blocks that are all sound, or are not
 abbrev pub counted_findings : Row → Bool → ℕ → List Finding
 counted_findings row sound many = unless (not sound || (many == row.entries)) (finding part.Index (byte_of_page (index_page row)) WrongCount)

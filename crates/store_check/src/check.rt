@@ -181,7 +181,7 @@ impl Check {
         }
     }
 
-    // The row that is looked at next, none behind the last.
+    // The row that is looked at next, none after the last.
     fn row_at_hand(&self) -> Option<Row>
         ensures row { result ≡ row_at_hand self.now }
         ensures fits { IfSome result FitsDevice }
@@ -194,7 +194,7 @@ impl Check {
         }
     }
 
-    // Looks at a row, or behind the last row goes on to the next part.
+    // Looks at a row, or after the last row goes on to the next part.
     fn look_at_row<F: RangeFilter, D: Disk>(&mut self, disk: &mut D) -> Result<(), CheckError>
         requires stage { self.old.stage ≡ Rows }
         requires none { waiting self.old ≡ [] }

@@ -15,9 +15,9 @@ use filter_api::RangeFilter;
 use mem_table::MemTable;
 use merge_rows::MergeRows;
 use std::alloc::{AllocError, Global};
-use table_file::{TableFault, Tables, standing_tables_are_read};
+use table_file::{TableFault, Tables};
 
-// The numbers of so many tables, which are counted from the last one: the newest first.
+// The numbers of a given number of tables, which are counted from the last one: the newest first.
 fn all_numbers(alloc: Global, many: u32) -> Result<Vec<u32>, AllocError>
     ensures { IfOk result (λ which. which.items ≡ numbers_below many) }
 {
@@ -50,7 +50,7 @@ pub(crate) fn live_pairs<F: RangeFilter, D: Disk>(
     ensures moves { OnlyReads (D.world disk.old) (D.world disk.new) }
 {
     // the law of the layer below: no read of a block of a table that is there is damage
-    standing_tables_are_read();
+    table_file::laws::standing_tables_are_read();
     let which = all_numbers(alloc, tables.len() as u32)?;
     let mut rows = MergeRows::new(which, tables, Some(memory), b"", true)?;
     for live in 0..most {

@@ -25,6 +25,8 @@ struct Range {
     level: u8,
     least: Vec<u8>,
     greatest: Vec<u8>,
+    // the end of its last deleted range: no index has one yet
+    reach: Vec<u8>,
 }
 
 impl Model for Range {
@@ -32,7 +34,7 @@ impl Model for Range {
 
     ghost Value = { KeyRange };
 
-    ghost view = { λ r. record { level = r.level; least = r.least.items; greatest = r.greatest.items } };
+    ghost view = { λ r. record { level = r.level; least = r.least.items; greatest = r.greatest.items; reach = r.reach.items } };
 }
 
 impl Range {
@@ -48,16 +50,18 @@ impl Range {
             level: index.row().level,
             least: Vec::from_slice(alloc, index.least())?,
             greatest: Vec::from_slice(alloc, greatest)?,
+            reach: Vec::new(alloc),
         })
     }
 
-    // Whether a table may stand behind one whose keys lie here: below level 0 its keys come after.
+    // Whether a table may be after one whose keys lie here: below level 0 its keys come after, from its reach on.
     fn lets(&self, range: &Range) -> bool
         ensures { result ≡ follows self.now range.now }
     {
         self.level != range.level
             || range.level == 0
-            || compare(self.greatest.as_slice(), range.least.as_slice()).is_lt()
+            || (compare(self.greatest.as_slice(), range.least.as_slice()).is_lt()
+                && !compare(range.least.as_slice(), self.reach.as_slice()).is_lt())
     }
 }
 

@@ -27,7 +27,6 @@ use filter_api::RangeFilter;
 use gate_log::{Log, LogFault};
 use manifest::{ManifestFault, Version, load};
 use mem_table::MemTable;
-use merge_rows::{merged_laws, standing_tables_are_merged};
 use std::alloc::{AllocError, Global};
 use table_file::{TableFault, Tables, open_table};
 
@@ -87,8 +86,8 @@ pub(crate) fn summarize<F: RangeFilter, D: Disk>(
     ensures moves { OnlyReads (D.world disk.old) (D.world disk.new) }
 {
     // the laws of the layer below, of rows and of tables that are there
-    merged_laws();
-    standing_tables_are_merged();
+    merge_rows::laws::merged_laws();
+    merge_rows::laws::standing_tables_are_merged();
     let version = version_now(alloc, disk)?;
     let tables: Tables<F> = open_tables(alloc, disk, &version.rows)?;
     let records = log_records(alloc, disk, version.log_area)?;

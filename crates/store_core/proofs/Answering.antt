@@ -91,7 +91,7 @@ module _ (spelling : Spelling) (bytes : FilterBytes) (s : State) (request : Requ
     step_memory : IsErr result → Step Cause bytes s request reply.Memory s
     step_memory failed = subst (Step Cause bytes s request reply.Memory) left (no_memory free (takes failed) tt)
 
-    -- behind a write that failed no job is left, and the store is stopped
+    -- after a write that failed no job is left, and the store is stopped
     step_failed : IsErr result → (to : State) → change ≡ Ok to → Rose a.seen.write_faults b.seen.write_faults → Step Cause bytes s request reply.Device (without_job s)
     step_failed failed to made rose = write_failed (without_job s) free (writes failed to made) rose sound (inl refl)
 
@@ -123,7 +123,7 @@ module _ (spelling : Spelling) (bytes : FilterBytes) (s : State) (request : Requ
     wrote_answers (turns to made fails t) = by_result result refl to made fails cause t
     wrote_answers (refused why made failed told_is tied meanwhile) = by_refusal why made failed told_is tied meanwhile
 
--- what stands as it stood is left, but for the job
+-- what is as it stood is left, but for the job
 pub is_left : (spelling : Spelling) (bytes : FilterBytes) (store : StoreValue) (s : State) (w : World) → Represents spelling bytes store s w → IsLeft bytes s (without_job s)
 is_left spelling bytes store s w tied = record { settings = refl; pages = refl; no_job = refl; sound = drop_sound bytes s tied.sound }
 

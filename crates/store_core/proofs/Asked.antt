@@ -13,7 +13,9 @@ use Rattle.line_model.specs.Limits.{key_limit}
 use Rattle.map_model.specs.SortedMap.{Bytes}
 use Rattle.state_model.specs.Bounds.{get_bound, searched, unless_found}
 use Rattle.state_model.specs.State.{State}
-use Rattle.state_model.specs.View.{first_found, memory, view}
+use Rattle.state_model.proofs.WithoutRanges.{view_alone}
+use Rattle.state_model.specs.View.{memory, view}
+use Rattle.state_model.specs.WithoutRanges.{HasOnlyEntries, first_found}
 use Rattle.store_search.specs.Caching.{AreNumbered, CacheAgrees, Cached, unkept, unkept_named}
 use Rattle.store_core.specs.Faults.{of_table_fault}
 use Rattle.store_core.specs.Getting.{Asked, GetsKey, IsGetRefusal, IsMet, IsShown, IsUndamaged, said_at, unkept_bound}
@@ -28,6 +30,7 @@ use Rattle.store_search.proofs.Caches.{left_itself}
 use Rattle.store_search.proofs.Lookings.{named_few, none_of}
 use Rattle.store_search.proofs.ReadBounds.{bound_is}
 use Rattle.store_core.proofs.ShownBlocks.{told_fault}
+use Rattle.store_core.proofs.Recorded.{entries_in}
 use Rattle.store_core.proofs.Ties.{tied_read}
 use Rattle.table_file.specs.Faults.{IsNoDamage}
 use Rattle.table_file.specs.Opened.{Opened}
@@ -73,10 +76,10 @@ unsaid f found some entries store key said is none same = ap (λ (es : List Entr
 -- the tables say it, or a block that was kept of them
 pub found_view : (place : Place) (after : StoreValue) (s : State) (key : Bytes) (found : Option Spot) (buffer : Bytes) (kept : List KeptBlock)
     → ((store : StoreValue) (k : Bytes) → said_at place store k ≡ said_in found store.buffer store.blocks.kept k) → after.buffer ≡ buffer → after.blocks.kept ≡ kept → lookup (memory s) key ≡ None
-    → said_in found buffer kept key ≡ first_found (entries_by_table s.tables) key → said_at place after key ≡ view s key
-found_view place after s key found buffer kept said buffer_is kept_is none is =
+    → said_in found buffer kept key ≡ first_found (entries_by_table s.tables) key → HasOnlyEntries s (entries_in s) → said_at place after key ≡ view s key
+found_view place after s key found buffer kept said buffer_is kept_is none is only =
     said after key ∙ ap (λ (b : Bytes). said_in found b after.blocks.kept key) buffer_is ∙ ap (λ (l : List KeptBlock). said_in found buffer l key) kept_is
-    ∙ is ∙ ap (λ (o : Option (Option Bytes)). option_or o (first_found (entries_by_table s.tables) key)) (sym none)
+    ∙ is ∙ ap (λ (o : Option (Option Bytes)). option_or o (first_found (entries_by_table s.tables) key)) (sym none) ∙ sym (view_alone s (entries_in s) key only)
 
 -- ---- how many blocks are read
 

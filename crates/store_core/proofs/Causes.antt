@@ -87,7 +87,7 @@ format_cause a b manifest.AlreadyAStore is = tt
 format_cause a b manifest.Epoch is = is
 format_cause a b (manifest.Damaged d) is = is
 
--- ---- behind other calls
+-- ---- after other calls
 
 module _ (a b c : World) (reads : a.seen.read_faults ≤ b.seen.read_faults) where
   read_rose : (cause : DiskFault) → ReadRose b c cause → ReadRose a c cause

@@ -19,13 +19,14 @@ use Rattle.log_model.proofs.Logs.{none_filled}
 use Rattle.manifest.specs.Manifest.{Manifest, other_place, place_of}
 use Rattle.state_model.proofs.EmptyStores.{compaction_left}
 use Rattle.state_model.proofs.SoundCompaction.{compacted_sound}
-use Rattle.state_model.proofs.SoundLogs.{logged_entries, newest_all, newest_none}
+use Rattle.state_model.proofs.SoundLogs.{logged_entries, newest_all, source_none}
 use Rattle.state_model.specs.Changes.{compact_placed, compacted_with}
 use Rattle.state_model.specs.Merges.{NoRoom}
 use Rattle.state_model.specs.Sound.{IsSound}
 use Rattle.state_model.specs.State.{Job, State, without_job}
 use Rattle.state_model.specs.Steps.{Answer, Step, answer, answers, done_or_refused, no_memory, read_failed, write_failed}
-use Rattle.state_model.specs.View.{entries_of, oldest_first, state_map}
+use Rattle.range_model.specs.Sources.{Change}
+use Rattle.state_model.specs.View.{changes_of, oldest_first, state_map}
 use Rattle.table_file.specs.Opened.{Opened}
 use Rattle.table_model.specs.Tables.{FilterBytes, Table}
 use Rattle.store_core.specs.Answers.{AnswersRequest, HasCause, stops, told}
@@ -43,14 +44,14 @@ use Rattle.store_core.proofs.Frames.{are_slots}
 
 -- ---- a compaction that is begun
 
-module _ (spelling : Spelling) (bytes : FilterBytes) (store after : StoreValue) (s : State) (a b : World) (some : entries_of s ≢ []) (left : s.epoch ≢ last_epoch) where
+module _ (spelling : Spelling) (bytes : FilterBytes) (store after : StoreValue) (s : State) (a b : World) (some : changes_of s ≢ []) (left : s.epoch ≢ last_epoch) where
   abbrev dropped : State
   dropped = without_job s
 
   abbrev Map : Image → Type 0
   Map = StandsForMap spelling (state_map s)
 
-  -- the map of the state is that before it and that behind it
+  -- the map of the state is that before it and that after it
   crash : Meanwhile (StandsForMap spelling (state_map s)) a b
       → Meanwhile (λ image. StandsForMap spelling (state_map s) image ⊎ StandsForMap spelling (state_map (answer bytes s Compact).1) image) a b
   crash meanwhile = meanwhile_weaker (StandsForMap spelling (state_map s)) _ a b meanwhile (λ image map. inl map)
@@ -182,11 +183,11 @@ module _ (spelling : Spelling) (bytes : FilterBytes) (store : StoreValue) (s : S
     tables_none : s.tables ≡ []
     tables_none = no_tables_held store.tables s.tables no_tables (tied.images w.seen.held current).tables
 
-    entries_none : entries_of s ≡ []
-    entries_none = ap₂ (λ (ts : List Table) (log : List Entry). oldest_first ts ++ log) tables_none (newest_none s.log (sym tied.memory ∙ no_memory))
+    entries_none : changes_of s ≡ []
+    entries_none = ap₂ (λ (ts : List Table) (log : List Change). oldest_first ts ++ log) tables_none (source_none s.log tied.sound.log (sym tied.memory ∙ no_memory))
 
     empty_is : answer bytes s Compact ≡ (reply.Done, s)
-    empty_is = ap (λ (es : List Entry). done_or_refused (without_job s) (compacted_with bytes s es)) entries_none
+    empty_is = ap (λ (changes : List Change). done_or_refused (without_job s) (compacted_with bytes s changes)) entries_none
 
     no_job : s.job ≡ None
     no_job = ap (λ (x : Answer). x.1.job) (sym empty_is) ∙ compaction_left bytes s (answer bytes s Compact).1 (answer bytes s Compact).0 tied.sound answers
@@ -212,14 +213,14 @@ module _ (spelling : Spelling) (bytes : FilterBytes) (store : StoreValue) (s : S
     }
 
   -- at the last epoch
-  last_with : (entries : List Entry) → entries ≢ [] → (s.epoch == last_epoch) ≡ true → compacted_with bytes s entries ≡ Err LastEpoch
+  last_with : (changes : List Change) → changes ≢ [] → (s.epoch == last_epoch) ≡ true → compacted_with bytes s changes ≡ Err LastEpoch
   last_with [] some last = absurd (some refl)
   last_with (e ∷ more) some last = ap (λ (b : Bool). cond b (Err LastEpoch) (compact_placed s (compact_tables bytes (without_job s)))) last
 
-  pub compact_last : (why : StoreError) → why ≡ error.Limit Rattle.store_core.specs.declared.error.Limit.TheVariants.Epoch → entries_of s ≢ [] → (s.epoch == last_epoch) ≡ true
+  pub compact_last : (why : StoreError) → why ≡ error.Limit Rattle.store_core.specs.declared.error.Limit.TheVariants.Epoch → changes_of s ≢ [] → (s.epoch == last_epoch) ≡ true
       → AnswersRequest spelling bytes s Compact (told why) (record store { job = None }) w w
   compact_last why is some last =
-      let answer_is : answer bytes s Compact ≡ (LastEpoch, without_job s) = ap (done_or_refused (without_job s)) (last_with (entries_of s) some last) in
+      let answer_is : answer bytes s Compact ≡ (LastEpoch, without_job s) = ap (done_or_refused (without_job s)) (last_with (changes_of s) some last) in
       subst (λ (e : StoreError). AnswersRequest spelling bytes s Compact (told e) (record store { job = None }) w w) (sym is) (record {
         reply = LastEpoch;
         told_is = refl;
@@ -248,7 +249,7 @@ module _ (spelling : Spelling) (bytes : FilterBytes) (store after : StoreValue) 
   under : RepresentsOn spelling store.manifest store.tables store.job (without_job s) a.seen.held
   under = tied.images a.seen.held current
 
-  some_are : entries_of s ≢ []
+  some_are : changes_of s ≢ []
   some_are = some_entries bytes (without_job s) tied.sound (elim premise [
     | inl entry ↦ inl (λ empty. entry (tied.memory ∙ empty))
     | inr table ↦ inr (λ empty. table (none_open spelling a.seen.held store.tables s.tables under.tables empty))

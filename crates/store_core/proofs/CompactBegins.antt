@@ -7,7 +7,7 @@ use Rattle.key_base.specs.Limits.{last_epoch}
 use Rattle.line_model.specs.Replies as reply
 use Rattle.line_model.specs.Requests.{Compact}
 use Rattle.state_model.specs.State.{State, without_job}
-use Rattle.state_model.specs.View.{entries_of}
+use Rattle.state_model.specs.View.{changes_of}
 use Rattle.table_model.specs.Tables.{FilterBytes}
 use Rattle.store_core.specs.Answers.{AnswersRequest}
 use Rattle.store_core.specs.StoreValue.{IsConsistent, StoreValue}
@@ -43,7 +43,7 @@ module _ (store after : StoreValue) (same : after ≡ record store { job = None 
       answered_empty no_memory no_tables = subst (λ (k : StoreValue). AnswersRequest spelling bytes s Compact (Some reply.Done) k w w) (sym same)
           (compact_empty spelling bytes store s w whole.slot tied current (sym (ap (λ (k : StoreValue). k.memory.entries) same) ∙ no_memory) (sym (ap (λ (k : StoreValue). k.tables) same) ∙ no_tables))
 
-      some_are : (after.memory.entries ≢ []) ⊎ (after.tables ≢ []) → entries_of s ≢ []
+      some_are : (after.memory.entries ≢ []) ⊎ (after.tables ≢ []) → changes_of s ≢ []
       some_are some = some_entries bytes s tied.sound (elim some [
         | inl entry ↦ inl (λ empty. entry (ap (λ (k : StoreValue). k.memory.entries) same ∙ (tied.memory ∙ empty)))
         | inr table ↦ inr (λ empty. table (ap (λ (k : StoreValue). k.tables) same ∙ none_open spelling w.seen.held store.tables s.tables (tied.images w.seen.held current).tables empty))

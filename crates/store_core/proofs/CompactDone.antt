@@ -25,7 +25,7 @@ use Rattle.manifest_model.specs.Installs.{IsInstalled, IsOldOrNew}
 use Rattle.manifest_model.specs.Laws.{IsVersion, RowFits}
 use Rattle.manifest_model.specs.Version.{Version, log_page_of}
 use Rattle.state_model.specs.State.{State}
-use Rattle.state_model.specs.View.{entries_of, state_map}
+use Rattle.state_model.specs.View.{changes_of, state_map}
 use Rattle.table_file.specs.Opened.{Opened}
 use Rattle.table_model.specs.Tables.{FilterBytes}
 use Rattle.store_core.specs.Answers.{is_write}
@@ -83,7 +83,7 @@ module _ (spelling : Spelling) (bytes : FilterBytes) (m : Manifest) (opened : Li
   here : Under a.seen.held
   here = held.images a.seen.held current
 
-  some : entries_of s ≢ []
+  some : changes_of s ≢ []
   some = leads.some_entries bytes s held.sound (elim premise [
     | inl entry ↦ inl (λ none. entry (held.memory ∙ none))
     | inr table ↦ inr (λ none. table (none_open spelling a.seen.held opened s.tables here.tables none))
@@ -92,7 +92,7 @@ module _ (spelling : Spelling) (bytes : FilterBytes) (m : Manifest) (opened : Li
   nows : Now Under b
   nows = now_at Under a b stays
 
-  -- the tables are not all written, or memory is wanted behind them
+  -- the tables are not all written, or memory is wanted after them
   pub stays_map : Meanwhile (StandsForMap spelling (state_map s)) a b
   stays_map = meanwhile_weaker Under Map a b stays (leads.under_map spelling m opened slot s)
 
@@ -108,7 +108,7 @@ module _ (spelling : Spelling) (bytes : FilterBytes) (m : Manifest) (opened : Li
     new_is = compacted_is_version m (rows_of made) is compact fits range
 
     first : IsOk (first_compact_table bytes s)
-    first = all_then_first bytes s.settings s.pages 6 (Rattle.state_model.specs.Taken.taken s) (Rattle.state_model.specs.Merges.outputs_for s.tables (Rattle.state_model.specs.Changes.live_entries s)) all.tables all.placed_so
+    first = all_then_first bytes s.settings s.pages 6 (Rattle.state_model.specs.Taken.taken s) (Rattle.state_model.specs.Changes.compacted_outputs s) all.tables all.placed_so
 
     at : (other : ℕ) × (m.version.log_page ≡ log_page_of other) × (area ≢ other) × (area ≤ 1)
     at = other_area_of m.version area is area_is

@@ -1,4 +1,4 @@
--- The other log is begun, and the version is installed in which the tables of a compaction stand alone.
+-- The other log is begun, and the version is installed in which the tables of a compaction are alone.
 use Rattle.std.proofs.Common.{◌≡◌, ◌≢◌, ◌⊎◌, inl, inr, ◌∙◌, ◌-◌, ◌<◌, ◌≤◌, ◌++◌, ℕ, Bool, true, false, cond, List, [], ◌∷◌, map, refl, sym, ap, subst, arith}
 use Rattle.std.specs.Prelude.{Option, None, Result, Ok, Err, OnOk, ◌==◌}
 use Rattle.std.proofs.lemmas.Bool.{ne_eqb}
@@ -6,8 +6,6 @@ use Rattle.disk_trait.specs.Image.{Image, Torn}
 use Rattle.disk_trait.specs.World.{Leads, Meanwhile, Now, ReadMoves, World, WriteMoves}
 use Rattle.disk_trait.proofs.Calls.{leads_around, reads_keep}
 use Rattle.disk_trait.proofs.Moments.{meanwhile_then, meanwhile_weaker}
-use Rattle.entry_model.specs.Entries.{Entry}
-use Rattle.entry_model.specs.Newest.{newest_entries}
 use Rattle.filter_api.specs.Spellings.{Spelling}
 use Rattle.image_model.proofs.Frames.{other_log_apart, ready_is_state}
 use Rattle.image_model.proofs.Placed.{behind_logs}
@@ -22,12 +20,13 @@ use Rattle.manifest_model.specs.Version.{log_page_of}
 use Rattle.state_model.proofs.EmptyStores.{without_entries}
 use Rattle.state_model.proofs.Kept.{compacted_keeps}
 use Rattle.state_model.proofs.SoundCompaction.{compacted_sound}
-use Rattle.state_model.specs.Changes.{compact_placed, compacted, compacted_with, live_entries}
-use Rattle.state_model.specs.Merges.{outputs_for, placed}
+use Rattle.range_model.specs.Sources.{Change, source_of}
+use Rattle.state_model.specs.Changes.{compact_placed, compacted, compacted_outputs, compacted_with}
+use Rattle.state_model.specs.Merges.{placed}
 use Rattle.state_model.specs.Sound.{IsSound}
 use Rattle.state_model.specs.State.{Job, State, without_job, written_by}
 use Rattle.state_model.specs.Taken.{extent_of, taken}
-use Rattle.state_model.specs.View.{entries_of, memory, state_map}
+use Rattle.state_model.specs.View.{changes_of, memory, state_map}
 use Rattle.line_model.specs.Replies.{LastEpoch}
 use Rattle.table_file.specs.Opened.{Opened}
 use Rattle.table_model.specs.Tables.{FilterBytes, Table}
@@ -37,44 +36,44 @@ use Rattle.store_core.specs.StoreValue.{rows_of}
 use Rattle.store_core.specs.Represents.{RepresentsOn}
 use Rattle.store_core.proofs.CompactSlices.{under_kept}
 use Rattle.store_core.proofs.Frames.{are_slots, held_kept}
-use Rattle.store_core.proofs.InstallLeads.{After, Before, install_leads}
+use Rattle.store_core.proofs.InstallLeads.{AfterInstall, Before, install_leads}
 
--- ---- the state behind it
+-- ---- the state after it
 
 some_cons : {A : Type 0} (x : A) (xs : List A) → x ∷ xs ≡ [] → ⊥
 some_cons x xs none = absurd cc
 
-no_back : (xs ys : List Entry) → xs ++ ys ≡ [] → ys ≡ []
+no_back : (xs ys : List Change) → xs ++ ys ≡ [] → ys ≡ []
 no_back [] ys none = none
 no_back (x ∷ xs) ys none = absurd cc
 
 -- where there is something in memory or a table, the state has entries
-pub some_entries : (bytes : FilterBytes) (s : State) → IsSound bytes s → (memory s ≢ []) ⊎ (s.tables ≢ []) → entries_of s ≢ []
-some_entries bytes s sound (inl some) none = some (ap newest_entries (no_back (Rattle.state_model.specs.View.oldest_first s.tables) s.log none))
+pub some_entries : (bytes : FilterBytes) (s : State) → IsSound bytes s → (memory s ≢ []) ⊎ (s.tables ≢ []) → changes_of s ≢ []
+some_entries bytes s sound (inl some) none = some (ap (λ (log : List Change). (source_of log).entries) (no_back (Rattle.state_model.specs.View.oldest_first s.tables) s.log none))
 some_entries bytes s sound (inr some) none = some (without_entries bytes s sound none)
 
 other_epoch : (n : ℕ) → n ≢ last_epoch → (n == last_epoch) ≡ false
 unfolding last_epoch
 other_epoch n other = ne_eqb n 18446744073709551615 other
 
-begun_with : (bytes : FilterBytes) (s : State) (entries : List Entry) → entries ≢ [] → s.epoch ≢ last_epoch
-    → compacted_with bytes s entries ≡ compact_placed s (placed bytes s.settings s.pages (taken (without_job s)) 6 (outputs_for s.tables (live_entries s)))
+begun_with : (bytes : FilterBytes) (s : State) (changes : List Change) → changes ≢ [] → s.epoch ≢ last_epoch
+    → compacted_with bytes s changes ≡ compact_placed s (placed bytes s.settings s.pages (taken (without_job s)) 6 (compacted_outputs s))
 begun_with bytes s [] some other = absurd (some refl)
 begun_with bytes s (e ∷ more) some other =
-    ap (λ (b : Bool). cond b (Err LastEpoch) (compact_placed s (placed bytes s.settings s.pages (taken (without_job s)) 6 (outputs_for s.tables (live_entries s))))) (other_epoch s.epoch other)
+    ap (λ (b : Bool). cond b (Err LastEpoch) (compact_placed s (placed bytes s.settings s.pages (taken (without_job s)) 6 (compacted_outputs s)))) (other_epoch s.epoch other)
 
 -- what a compaction that is begun makes of it
-pub compacted_so : (bytes : FilterBytes) (s : State) → entries_of s ≢ [] → s.epoch ≢ last_epoch → compacted bytes s ≡ compact_placed s (compact_tables bytes (without_job s))
-compacted_so bytes s some other = begun_with bytes s (entries_of s) some other
+pub compacted_so : (bytes : FilterBytes) (s : State) → changes_of s ≢ [] → s.epoch ≢ last_epoch → compacted bytes s ≡ compact_placed s (compact_tables bytes (without_job s))
+compacted_so bytes s some other = begun_with bytes s (changes_of s) some other
 
 alone : (s : State) → s.job ≡ None → taken (without_job s) ≡ taken s
 alone s none = ap (λ (j : Option Job). map extent_of (s.tables ++ written_by j ++ s.kept)) (sym none)
 
-pub compacted_ok : (bytes : FilterBytes) (s : State) (tables : List Table) → s.job ≡ None → entries_of s ≢ [] → s.epoch ≢ last_epoch → compact_tables bytes s ≡ Ok tables
+pub compacted_ok : (bytes : FilterBytes) (s : State) (tables : List Table) → s.job ≡ None → changes_of s ≢ [] → s.epoch ≢ last_epoch → compact_tables bytes s ≡ Ok tables
     → compacted bytes s ≡ Ok (compacted_into tables s)
 compacted_ok bytes s tables none some other placed_so =
     compacted_so bytes s some other
-    ∙ ap (compact_placed s) (ap (λ (es : List _). placed bytes s.settings s.pages es 6 (outputs_for s.tables (live_entries s))) (alone s none) ∙ placed_so)
+    ∙ ap (compact_placed s) (ap (λ (es : List _). placed bytes s.settings s.pages es 6 (compacted_outputs s)) (alone s none) ∙ placed_so)
 
 -- ---- the images
 
@@ -82,7 +81,7 @@ pub under_map : (spelling : Spelling) (m : Manifest) (opened : List Opened) → 
 under_map spelling m opened slot s image under = (s, (m.version, ready_is_state spelling (place_of m.slot) (other_place m.slot) m.other_open m.version s image (are_slots m.slot slot) under.ready), refl)
 
 module _ (spelling : Spelling) (bytes : FilterBytes) (m : Manifest) (opened : List Opened) (slot : m.slot ≤ 1) (rows : rows_of opened ≡ m.version.rows) (s : State) (no_job : s.job ≡ None) (none_kept : s.kept ≡ [])
-    (sound : IsSound bytes s) (is : IsVersion m.version) (epoch : m.version.epoch < last_epoch) (same_epoch : s.epoch ≡ m.version.epoch) (some : entries_of s ≢ [])
+    (sound : IsSound bytes s) (is : IsVersion m.version) (epoch : m.version.epoch < last_epoch) (same_epoch : s.epoch ≡ m.version.epoch) (some : changes_of s ≢ [])
     (made : List Opened) (tables : List Table) (placed_so : compact_tables bytes s ≡ Ok tables) (area here : ℕ) (small : area ≤ 1) (area_is : other_log_page m.version ≡ log_page_of area)
     (here_is : m.version.log_page ≡ log_page_of here) (other : area ≢ here) (new_is : IsVersion (compacted_manifest m (rows_of made)).version) where
   abbrev to : State
@@ -139,15 +138,15 @@ module _ (spelling : Spelling) (bytes : FilterBytes) (m : Manifest) (opened : Li
       log_meanwhile : Meanwhile (StandsForMap spelling (state_map s)) b c
       log_meanwhile = meanwhile_weaker (λ image. Now_under image × Stand image) (StandsForMap spelling (state_map s)) b c (log_done.meanwhile both) (λ image here_is. to_map image here_is.0)
 
-      before_install : Now (Before spelling m slot is made area s tables []) c
+      before_install : Now (Before spelling m slot is made area s tables [] []) c
       before_install image left_there = let all = begun image left_there in (all.0.0.ready, (all.0.1, all.1))
 
       same_page : {T E : Type 0} (result : Result T E)
           → Leads (StandsInSlot m.slot m.other_open m.version) (IsOldOrNew (install_of (compacted_manifest m (rows_of made)) m.version)) (IsInstalled (install_of (compacted_manifest m (rows_of made)) m.version)) result c d
-          → Leads (Before spelling m slot is made area s tables []) (StandsForMap spelling (state_map s)) (After spelling m slot is made area s tables []) result c d
+          → Leads (Before spelling m slot is made area s tables [] []) (StandsForMap spelling (state_map s)) (AfterInstall spelling m slot is made area s tables [] []) result c d
       same_page result leads =
-          install_leads spelling m slot is made area s tables []
-          (subst (λ (page : ℕ). IsVersion (record m.version { log_page = page; rows = rows_of made })) area_is new_is) epoch none_kept to_sound.order to_keeps result c d moves
+          install_leads spelling m slot is made area s tables [] []
+          (subst (λ (page : ℕ). IsVersion (record m.version { log_page = page; rows = rows_of made })) area_is new_is) epoch none_kept to_sound.order (λ image named. refl) to_keeps result c d moves
           (subst (λ (page : ℕ). Leads (StandsInSlot m.slot m.other_open m.version) (IsOldOrNew (install_of (record m { version = record m.version { log_page = page; rows = rows_of made } }) m.version))
           (IsInstalled (install_of (record m { version = record m.version { log_page = page; rows = rows_of made } }) m.version)) result c d) area_is leads)
 

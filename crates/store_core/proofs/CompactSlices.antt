@@ -37,11 +37,15 @@ use Rattle.manifest.specs.Manifest.{Manifest, other_place, place_of}
 use Rattle.manifest_model.specs.Rows as model
 use Rattle.merge_rows.specs.Merges.{TableWalk}
 use Rattle.merge_rows.specs.Reads.{blocks_left, blocks_left_in}
+use Rattle.range_model.specs.Sources.{Source, alone}
+use Rattle.state_model.proofs.WithoutRanges.{compacted_alone}
 use Rattle.state_model.specs.Changes.{live_entries}
 use Rattle.state_model.specs.Merges.{NoRoom, outputs_for, placed}
 use Rattle.state_model.specs.State.{Job, State, written_by}
 use Rattle.state_model.specs.Taken.{extent_of, taken}
 use Rattle.state_model.specs.View.{memory}
+use Rattle.state_model.specs.WithoutRanges.{HasOnlyEntries}
+use Rattle.store_core.proofs.Recorded.{entries_in}
 use Rattle.table_file.specs.Opened.{Opened}
 use Rattle.table_model.specs.Laws.{IsApartFromRow}
 use Rattle.table_model.specs.Tables.{FilterBytes, Table, table_of, table_pages}
@@ -105,7 +109,7 @@ pub record IsGoing (spelling : Spelling) (bytes : FilterBytes) (mf : Manifest) (
   pub output : m.output ≡ 6
   pub pages : free.pages ≡ s.pages
   pub taken_are : AreTakenBy opened m.made [] free
-  pub placed_so : compact_tables bytes s ≡ behind_made made (placed bytes s.settings s.pages free.extents 6 left)
+  pub placed_so : compact_tables bytes s ≡ behind_made made (placed bytes s.settings s.pages free.extents 6 (map alone left))
   pub first : ((left ≡ outputs_for s.tables (live_entries s)) × IsPermutation free.extents (taken s)) ⊎ IsOk (first_compact_table bytes s)
   pub lasting : Now (TablesAgree spelling m.made made) w
   pub reads : a.seen.read_faults ≤ w.seen.read_faults
@@ -169,7 +173,8 @@ module _ (spelling : Spelling) (bytes : FilterBytes) (m : Manifest) (opened : Li
       | inl begun ↦
           let all : outputs ≡ place.output ∷ later = sym begun.0 ∙ place.first in
           let gap = sym (first_same s.pages (table_pages bytes s.settings place.output) free.extents (taken s) begun.1) ∙ place_is place.output place.page place.place in
-          subst (λ (os : List (List Entry)). IsOk (placed bytes s.settings s.pages (taken s) 6 (take 1 os))) (sym all) (first_placed bytes s.settings s.pages 6 (taken s) place.output later place.page gap)
+          subst (λ (os : List Source). IsOk (placed bytes s.settings s.pages (taken s) 6 (take 1 os))) (sym (compacted_alone s ∙ ap (map alone) all))
+          (first_placed bytes s.settings s.pages 6 (taken s) (alone place.output) (map alone later) place.page gap)
       | inr is ↦ is
     ]
 
@@ -204,8 +209,8 @@ module _ (spelling : Spelling) (bytes : FilterBytes) (m : Manifest) (opened : Li
         let need_so : need ≡ table_pages bytes s.settings output = need_is ∙ ap (λ (set : Settings). table_pages bytes set output) going.settings in
         let gap_so : gap ≡ largest_gap s.pages free.extents = gap_is ∙ ap (λ (n : ℕ). largest_gap n free.extents) going.pages in
         going.placed_so
-        ∙ ap (λ (left : List (List Entry)). behind_made going.made (placed bytes s.settings s.pages free.extents 6 left)) left_is
-        ∙ ap (behind_made going.made) (no_place_first bytes s.settings s.pages 6 free.extents output later (omega (arith, less, need_so, gap_so)))
+        ∙ ap (λ (left : List (List Entry)). behind_made going.made (placed bytes s.settings s.pages free.extents 6 (map alone left))) left_is
+        ∙ ap (behind_made going.made) (no_place_first bytes s.settings s.pages 6 free.extents (alone output) (map alone later) (omega (arith, less, need_so, gap_so)))
         ∙ ap₂ (λ (n g : ℕ). Err (record { need = n; gap = g })) (sym need_so) (sym gap_so)
 
     pub slice_refused : (why : JobFault) → SliceMoves spelling built_cutoff old new free now w x → IsMakeRefusal bytes opened old going.left free w x why → IsWritingCause bytes s a x why
@@ -220,11 +225,11 @@ module _ (spelling : Spelling) (bytes : FilterBytes) (m : Manifest) (opened : Li
       abbrev on : GoesOn spelling bytes opened s.tables old new going.left going.made [] free now w x
       on = slice.goes
 
-      placed_on : OneOutput bytes old free now going.left on.later going.made on.now → compact_tables bytes s ≡ behind_made on.now (placed bytes s.settings s.pages now.extents 6 on.later)
+      placed_on : OneOutput bytes old free now going.left on.later going.made on.now → compact_tables bytes s ≡ behind_made on.now (placed bytes s.settings s.pages now.extents 6 (map alone on.later))
       placed_on (inl same) =
           going.placed_so
-          ∙ ap₂ (λ (made : List Table) (left : List (List Entry)). behind_made made (placed bytes s.settings s.pages free.extents 6 left)) (sym same.1) (sym same.0)
-          ∙ ap (λ (t : Taken). behind_made on.now (placed bytes s.settings s.pages t.extents 6 on.later)) (sym same.2)
+          ∙ ap₂ (λ (made : List Table) (left : List (List Entry)). behind_made made (placed bytes s.settings s.pages free.extents 6 (map alone left))) (sym same.1) (sym same.0)
+          ∙ ap (λ (t : Taken). behind_made on.now (placed bytes s.settings s.pages t.extents 6 (map alone on.later))) (sym same.2)
       placed_on (inr one) =
           let output = one.placed.output in
           let page = one.placed.page in
@@ -233,9 +238,9 @@ module _ (spelling : Spelling) (bytes : FilterBytes) (m : Manifest) (opened : Li
           let extents : IsPermutation ((page, table_pages bytes s.settings output) ∷ free.extents) now.extents =
           subst (λ (set : Settings). IsPermutation ((page, table_pages bytes set output) ∷ free.extents) now.extents) going.settings one.extents in
           going.placed_so
-          ∙ ap (λ (left : List (List Entry)). behind_made going.made (placed bytes s.settings s.pages free.extents 6 left)) one.placed.first
-          ∙ place_first bytes s.settings s.pages 6 free.extents now.extents output on.later page going.made (place_is output page one.placed.place) extents
-          ∙ ap (λ (made : List Table). behind_made made (placed bytes s.settings s.pages now.extents 6 on.later)) (sym made_is)
+          ∙ ap (λ (left : List (List Entry)). behind_made going.made (placed bytes s.settings s.pages free.extents 6 (map alone left))) one.placed.first
+          ∙ place_first bytes s.settings s.pages 6 free.extents now.extents (alone output) (map alone on.later) page going.made (place_is output page one.placed.place) extents
+          ∙ ap (λ (made : List Table). behind_made made (placed bytes s.settings s.pages now.extents 6 (map alone on.later))) (sym made_is)
 
       first_on : OneOutput bytes old free now going.left on.later going.made on.now → (((on.later ≡ outputs) × IsPermutation now.extents (taken s)) ⊎ IsOk (first_compact_table bytes s))
       first_on (inl same) = elim going.first [
@@ -270,7 +275,7 @@ module _ (spelling : Spelling) (bytes : FilterBytes) (m : Manifest) (opened : Li
       unfolding slice_goes_on
       all_are_made none = record {
         tables = on.now;
-        placed_so = slice_goes_on.placed_so ∙ ap (λ (left : List (List Entry)). behind_made on.now (placed bytes s.settings s.pages now.extents 6 left)) none ∙ all_made on.now;
+        placed_so = slice_goes_on.placed_so ∙ ap (λ (left : List (List Entry)). behind_made on.now (placed bytes s.settings s.pages now.extents 6 (map alone left))) none ∙ all_made on.now;
         held = slice_goes_on.lasting;
       }
 
@@ -282,18 +287,19 @@ module _ (spelling : Spelling) (bytes : FilterBytes) (m : Manifest) (opened : Li
       ap (λ (rs : List Row). map model.extent_of rs) (append-nil m.version.rows ∙ sym rows) ∙ extents_shown opened ∙ sym is in
       IsPermutation-sym (taken s) xs (subst (λ (es : List Extent). IsPermutation es xs) all same)
 
-  pub going_begun : CompactionMakes → (a : World) (entries : List Entry) (free : Taken) → entries ≡ memory s → Now Under a → TablesAgree spelling opened s.tables a.seen.held → free.pages ≡ s.pages
+  pub going_begun : CompactionMakes → HasOnlyEntries s (entries_in s) → (a : World) (entries : List Entry) (free : Taken) → entries ≡ memory s → Now Under a → TablesAgree spelling opened s.tables a.seen.held → free.pages ≡ s.pages
       → IsPermutation free.extents (taken s) → taken s ≡ map (λ (t : Opened). extent_at t.row) opened → IsGoing spelling bytes m opened s a a (compaction entries s.settings opened) free
-  going_begun begins a entries free memory_is here held pages same is = record {
+  going_begun begins only a entries free memory_is here held pages same is = record {
     meanwhile = started Under a here;
     left = outputs;
     made = [];
-    makes = subst (λ (es : List Entry). OutputsLeft spelling opened a.seen.held (compaction es s.settings opened) outputs []) (sym memory_is) (begins spelling s opened a.seen.held held);
+    makes = subst (λ (es : List Entry). OutputsLeft spelling opened a.seen.held (compaction es s.settings opened) outputs []) (sym memory_is) (begins spelling s (entries_in s) opened a.seen.held only.log held);
     settings = refl;
     output = refl;
     pages = pages;
     taken_are = subst (IsPermutation free.extents) (is ∙ sym (append-nil (map (λ (t : Opened). extent_at t.row) opened))) same;
-    placed_so = sym (placed_same bytes s.settings s.pages 6 outputs free.extents (taken s) same) ∙ none_before (placed bytes s.settings s.pages free.extents 6 outputs);
+    placed_so = ap (placed bytes s.settings s.pages (taken s) 6) (compacted_alone s) ∙ sym (placed_same bytes s.settings s.pages 6 (map alone outputs) free.extents (taken s) same)
+        ∙ none_before (placed bytes s.settings s.pages free.extents 6 (map alone outputs));
     first = inl (refl, same);
     lasting = λ image left. tt;
     reads = omega arith;

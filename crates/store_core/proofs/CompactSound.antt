@@ -56,7 +56,7 @@ has_at [] (suc i) t is all = absurd cc
 has_at (u ∷ more) zero t is all = let same : u ≡ t = cc in subst HasItsPages same all.0
 has_at (u ∷ more) (suc i) t is all = has_at more i t is all.1
 
--- ---- what stands in the pages of the tables stays
+-- ---- what is in the pages of the tables stays
 
 -- a block lies in its table's pages
 pages_within : (rows : List IndexRow) (n : ℕ) (d : IndexRow) → n < length rows → row_pages (take n rows) + (get_or rows n d).pages ≤ row_pages rows
@@ -106,7 +106,7 @@ module _ (m : Manifest) (tables : List Opened) (rows : rows_of tables ≡ m.vers
             sound_was (length tables - 1 - old.number) t n here lt (each n later less)
       ]
 
-  -- so behind a slice too
+  -- so after a slice too
   pub before_on : (old new : List TableWalk) → PassSound tables image old new → AllByRecursion (SoundBefore tables was) old → AllByRecursion (SoundBefore tables was) new
   before_on [] [] passes all = tt
   before_on [] (y ∷ new) passes all = absurd passes

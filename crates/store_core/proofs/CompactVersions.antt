@@ -1,4 +1,4 @@
--- The version in which the tables of a compaction stand alone keeps the rules.
+-- The version in which the tables of a compaction are alone keeps the rules.
 use Rattle.std.proofs.Common.{◌≡◌, ◌⊎◌, inl, inr, ◌++◌, List, [], ◌∷◌, map, subst, arith}
 use Rattle.std.specs.List.{AllByRecursion}
 use Rattle.std.proofs.lemmas.List.{map-append}

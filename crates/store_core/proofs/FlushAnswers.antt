@@ -55,6 +55,7 @@ use Rattle.store_core.proofs.Frames.{under_stands}
 use Rattle.store_core.proofs.Overs.{placed_sound}
 use Rattle.store_core.proofs.Plans.{pages_are, row_level}
 use Rattle.store_core.proofs.Writing.{never, tied_with}
+use Rattle.range_model.specs.Sources.{Change, alone, source_of}
 
 eq_true : (m n : ℕ) → m ≡ n → (m == n) ≡ true
 eq_true m n e = grind arith
@@ -62,7 +63,7 @@ eq_true m n e = grind arith
 below : (m n : ℕ) → m < n → (m == n) ≡ false
 below m n l = grind arith
 
--- a fault of the device is no want of memory
+-- a fault of the device is no lack of memory
 no_memory : (cause : DiskFault) → error.Device cause ≡ error.Memory → ⊥
 no_memory cause is = cc
 
@@ -110,7 +111,7 @@ module _ (spelling : Spelling) (bytes : FilterBytes) (store : StoreValue) (s : S
       (record { meanwhile = meanwhile_weaker Own _ w w (stands_now whole w tied) (λ image map. inl map); wanted = tt; done = tied; refused = tt })
 
   -- what is flushed are the memory entries of the state with another log
-  module _ (a : World) (current : a.leaves a.moment a.seen.held) (tied : Represents spelling bytes store s a) (records entries : List Entry) (are : entries ≡ newest_entries records) (some : entries ≢ []) where
+  module _ (a : World) (current : a.leaves a.moment a.seen.held) (tied : Represents spelling bytes store s a) (records : List Change) (entries : List Entry) (are : entries ≡ (source_of records).entries) (no_range : source_of records ≡ alone (source_of records).entries) (some : entries ≢ []) where
     abbrev over : State
     over = record s { log = records }
 
@@ -120,11 +121,11 @@ module _ (spelling : Spelling) (bytes : FilterBytes) (store : StoreValue) (s : S
     agrees : Agree v (outputs_in store.job) s
     agrees = tied_agree spelling bytes store s a current tied
 
-    some_memory : newest_entries records ≢ []
+    some_memory : (source_of records).entries ≢ []
     some_memory none = some (are ∙ none)
 
-    need_is : table_pages bytes s.settings (newest_entries records) ≡ need_under bytes v entries
-    need_is = ap (λ (st : Settings). table_pages bytes st (newest_entries records)) agrees.settings ∙ ap (table_pages bytes (settings_of v)) (sym are)
+    need_is : table_pages bytes s.settings (source_of records).entries ≡ need_under bytes v entries
+    need_is = ap (λ (st : Settings). table_pages bytes st (source_of records).entries) agrees.settings ∙ ap (table_pages bytes (settings_of v)) (sym are)
 
     largest_is : largest_gap s.pages (taken s) ≡ largest_gap v.pages (extents_with v (outputs_in store.job))
     largest_is = ap (λ (n : ℕ). largest_gap n (taken s)) agrees.pages ∙ ap (largest_gap v.pages) agrees.taken_is
@@ -143,14 +144,14 @@ module _ (spelling : Spelling) (bytes : FilterBytes) (store : StoreValue) (s : S
     full_refuses : (need gap : ℕ) → length v.rows < 1024 → need ≡ need_under bytes v entries → gap ≡ largest_gap v.pages (extents_with v (outputs_in store.job))
         → largest_gap v.pages (extents_with v (outputs_in store.job)) < need_under bytes v entries → flushed bytes over ≡ Err (Full need gap)
     full_refuses need gap less need_so gap_so wide =
-        let none = gap_small s.pages (taken s) (table_pages bytes s.settings (newest_entries records)) (omega (arith, wide, need_is, largest_is)) in
-        flushed_full bytes over some_memory (few less) none
+        let none = gap_small s.pages (taken s) (table_pages bytes s.settings (source_of records).entries) (omega (arith, wide, need_is, largest_is)) in
+        flushed_full bytes over some_memory (few less) no_range none
         ∙ ap (λ (n : ℕ). Err (Full n (largest_gap s.pages (taken s)))) (need_is ∙ sym need_so)
         ∙ ap (λ (g : ℕ). Err (Full need g)) (largest_is ∙ sym gap_so)
 
     last_refuses : length v.rows < 1024 → need_under bytes v entries ≤ largest_gap v.pages (extents_with v (outputs_in store.job)) → v.epoch ≡ last_epoch → flushed bytes over ≡ Err LastEpoch
     last_refuses less room last =
-        flushed_last bytes over some_memory (few less) (omega (arith, room, need_is, largest_is)) (eq_true s.epoch last_epoch (omega (arith, agrees.epoch, last, last_is)))
+        flushed_last bytes over some_memory (few less) no_range (omega (arith, room, need_is, largest_is)) (eq_true s.epoch last_epoch (omega (arith, agrees.epoch, last, last_is)))
 
     pub plan_refused : {T : Type 0} (whole : IsConsistent store) (x : StoreError) → IsPlanRefusal bytes v (outputs_in store.job) entries x → WroteEntry {T = T} spelling bytes s (flushed bytes over) (Err x) store a a
     plan_refused whole error.Memory why = wanted (flushed bytes over) a a tied (stands_now whole a tied)
@@ -188,7 +189,7 @@ module _ (spelling : Spelling) (built_cutoff : ℕ → List Leaf → ℕ) (m : M
   row_within is laid next_is fits = omega (arith, fits, next_is.few_pages, pages_are spelling built_cutoff m outputs entries parts row next is laid plan)
 
 module _ (spelling : Spelling) (built_cutoff : ℕ → List Leaf → ℕ) (store : StoreValue) (s : State) (a b : World) (current : a.leaves a.moment a.seen.held)
-    (tied : Represents spelling (filter_bytes_of spelling built_cutoff) store s a) (records entries : List Entry) (are : entries ≡ newest_entries records) (some : entries ≢ []) (parts : Built) (row : Row) (next : Manifest)
+    (tied : Represents spelling (filter_bytes_of spelling built_cutoff) store s a) (records : List Change) (entries : List Entry) (are : entries ≡ (source_of records).entries) (no_range : source_of records ≡ alone (source_of records).entries) (some : entries ≢ []) (parts : Built) (row : Row) (next : Manifest)
     (plan : IsPlan spelling built_cutoff store.manifest (outputs_in store.job) entries parts row next) where
   abbrev behind : State
   behind = record s { log = records }
@@ -199,42 +200,42 @@ module _ (spelling : Spelling) (built_cutoff : ℕ → List Leaf → ℕ) (store
   abbrev Before : Image → Type 0
   Before = StandsForMap spelling (state_map s)
 
-  pub plan_of_records : IsPlan spelling built_cutoff store.manifest (outputs_in store.job) (newest_entries records) parts row next
+  pub plan_of_records : IsPlan spelling built_cutoff store.manifest (outputs_in store.job) (source_of records).entries parts row next
   plan_of_records = subst (λ (es : List Entry). IsPlan spelling built_cutoff store.manifest (outputs_in store.job) es parts row next) are plan
 
   abbrev to : State
   to = flushed_at bytes row.first_page (record s { log = records })
 
   -- the first gap is that of the state, too
-  placed_there : first_gap s.pages (taken s) (table_pages bytes s.settings (newest_entries records)) ≡ Some row.first_page
+  placed_there : first_gap s.pages (taken s) (table_pages bytes s.settings (source_of records).entries) ≡ Some row.first_page
   placed_there =
-      let need_so = need_is spelling bytes store s a current tied records entries are some in
-      first_is spelling bytes store s a current tied records entries are some (table_pages bytes s.settings (newest_entries records))
+      let need_so = need_is spelling bytes store s a current tied records entries are no_range some in
+      first_is spelling bytes store s a current tied records entries are no_range some (table_pages bytes s.settings (source_of records).entries)
       ∙ ap (first_gap store.manifest.version.pages (extents_with store.manifest.version (outputs_in store.job))) need_so ∙ plan.place
 
   less : length s.tables < 1024
-  less = few spelling bytes store s a current tied records entries are some plan.few
+  less = few spelling bytes store s a current tied records entries are no_range some plan.few
 
   left : s.epoch < last_epoch
   left =
-      let epoch_is = (agrees spelling bytes store s a current tied records entries are some).epoch in
+      let epoch_is = (agrees spelling bytes store s a current tied records entries are no_range some).epoch in
       omega (arith, epoch_is, plan.epoch, last_is)
 
   planned : flushed bytes behind ≡ Ok to
-  planned = flushed_done bytes behind (some_memory spelling bytes store s a current tied records entries are some) less row.first_page placed_there (below s.epoch last_epoch left)
+  planned = flushed_done bytes behind (some_memory spelling bytes store s a current tied records entries are no_range some) less no_range row.first_page placed_there (below s.epoch last_epoch left)
 
-  -- the map behind the flush is that with what was flushed
+  -- the map after the flush is that with what was flushed
   same_map : (image : Image) → Before image ⊎ StandsForMap spelling (state_map behind) image → Before image ⊎ StandsForMap spelling (state_map to) image
   same_map image (inl map) = inl map
   same_map image (inr map) = inr (subst (λ (m : Map). StandsForMap spelling m image) (sym (flushed_keeps bytes behind to planned)) map)
 
-  pub flush_done : {T U : Type 0} (x : T) (y : U) (after : StoreValue) → IsTable (newest_entries records) → FlushedTo spelling built_cutoff store s behind parts row next (Ok x) a b → after.manifest ≡ installed_manifest next
+  pub flush_done : {T U : Type 0} (x : T) (y : U) (after : StoreValue) → IsTable (source_of records).entries → FlushedTo spelling built_cutoff store s behind parts row next (Ok x) a b → after.manifest ≡ installed_manifest next
       → after.tables ≡ opened_of built_cutoff parts row ∷ store.tables → after.job ≡ store.job → after.blocks ≡ store.blocks → IsConsistent store → after.log.filled ≡ 0 → after.memory.entries ≡ [] → WroteEntry spelling bytes s (flushed bytes behind) (Ok y) after a b
   flush_done x y after table replaces manifest_is tables_are same_job blocks_are whole begun cleared = turns to planned tt (record {
     meanwhile = meanwhile_weaker _ _ a b replaces.meanwhile same_map;
     wanted = tt;
     done = record {
-      sound = placed_sound bytes s (newest_entries records) row.first_page tied.sound table less left placed_there;
+      sound = placed_sound bytes s (source_of records).entries row.first_page tied.sound table less left placed_there;
       none_kept = tied.none_kept;
       images = λ image left.
           subst (λ (ts : List Opened). RepresentsOn spelling after.manifest ts after.job to image) (sym tables_are)
@@ -244,7 +245,7 @@ module _ (spelling : Spelling) (built_cutoff : ℕ → List Leaf → ℕ) (store
       memory = cleared;
       blocks = subst (λ (b : Cached). CacheAgrees b after.tables to.tables) (sym blocks_are)
           (subst (λ (ts : List Opened). CacheAgrees store.blocks ts to.tables) (sym tables_are)
-          (true_in_front store.blocks (opened_of built_cutoff parts row) store.tables (table_of bytes s.settings 0 row.first_page (newest_entries records)) s.tables whole.numbered tied.blocks));
+          (true_in_front store.blocks (opened_of built_cutoff parts row) store.tables (table_of bytes s.settings 0 row.first_page (source_of records).entries) s.tables whole.numbered tied.blocks));
     };
     refused = tt;
   })

@@ -10,7 +10,8 @@ use Rattle.state_model.specs.Changes.{flush_placed, flushed, flushed_with}
 use Rattle.state_model.specs.Merges.{NoRoom, at_page, placed}
 use Rattle.state_model.specs.State.{State}
 use Rattle.state_model.specs.Taken.{taken}
-use Rattle.state_model.specs.View.{memory}
+use Rattle.range_model.specs.Sources.{Source, alone}
+use Rattle.state_model.specs.View.{in_memory, memory}
 use Rattle.store_core.specs.Flushing.{flushed_at}
 use Rattle.table_model.specs.Tables.{FilterBytes, Table, table_of, table_pages}
 
@@ -21,7 +22,7 @@ last_is = refl
 
 module _ (filter_bytes : FilterBytes) (s : State) where
   pub flushed_none : memory s ≡ [] → flushed filter_bytes s ≡ Ok s
-  flushed_none none = ap (flushed_with filter_bytes s) none
+  flushed_none none = ap (flushed_with filter_bytes s (in_memory s)) none
 
   -- the pages of the table
   abbrev pub need : ℕ
@@ -34,13 +35,14 @@ module _ (filter_bytes : FilterBytes) (s : State) where
   one page = table_of filter_bytes s.settings 0 page (memory s)
 
   -- where it is placed
-  one_placed : (page : Option ℕ) → first_gap s.pages (taken s) need ≡ page
-      → placed filter_bytes s.settings s.pages (taken s) 0 (memory s ∷ []) ≡ at_page page (λ p. Ok (one p ∷ [])) refusal
-  one_placed page is = ap (λ (o : Option ℕ). at_page o (λ p. Ok (one p ∷ [])) refusal) is
+  one_placed : (page : Option ℕ) → first_gap s.pages (taken s) need ≡ page → in_memory s ≡ alone (memory s)
+      → placed filter_bytes s.settings s.pages (taken s) 0 (in_memory s ∷ []) ≡ at_page page (λ p. Ok (one p ∷ [])) refusal
+  one_placed page is no_range =
+      ap (λ (source : Source). placed filter_bytes s.settings s.pages (taken s) 0 (source ∷ [])) no_range ∙ ap (λ (o : Option ℕ). at_page o (λ p. Ok (one p ∷ [])) refusal) is
 
-  module _ (some : memory s ≢ []) (few : length s.tables < 1024) where
+  module _ (some : memory s ≢ []) (few : length s.tables < 1024) (no_range : in_memory s ≡ alone (memory s)) where
     few_placed : (page : Option ℕ) → first_gap s.pages (taken s) need ≡ page → flushed filter_bytes s ≡ flush_placed s (at_page page (λ p. Ok (one p ∷ [])) refusal)
-    few_placed page is = flush_few filter_bytes s some few ∙ ap (flush_placed s) (one_placed page is)
+    few_placed page is = flush_few filter_bytes s some few ∙ ap (flush_placed s) (one_placed page is no_range)
 
     at_epoch : (page : ℕ) (last : Bool) → first_gap s.pages (taken s) need ≡ Some page → (s.epoch == last_epoch) ≡ last
         → flushed filter_bytes s ≡ cond last (Err LastEpoch) (Ok (flushed_at filter_bytes page s))

@@ -14,7 +14,7 @@ use Rattle.disk_trait.specs.declared.fault.DiskFault.{DiskFault}
 use Rattle.disk_trait.proofs.Calls.{leads_around, leads_framed, leads_then, leads_weaker, on_ok_two, reads_keep}
 use Rattle.disk_trait.proofs.Moments.{in_call, meanwhile_then, meanwhile_weaker}
 use Rattle.entry_model.specs.Entries.{Entry}
-use Rattle.entry_model.specs.Newest.{newest_entries}
+use Rattle.range_model.specs.Sources.{Change, alone, source_of}
 use Rattle.extent_model.proofs.Free.{gap_is_free}
 use Rattle.extent_model.proofs.Lists.{all_pairs, pairs_of}
 use Rattle.extent_model.specs.Extents.{AreApart, Extent, IsOnDevice}
@@ -108,7 +108,7 @@ device_cause f (Err e) old new is writes rose = subst (IsFlushFault old new) (sy
 never_memory : {T : Type 0} (P : Type 0) (r : Result T ManifestFault) → IfErr r (λ why. why ≢ fault.Memory) → IfErr r (λ why. why ≡ fault.Memory → P)
 never_memory P r other = if_err (λ why. why ≢ fault.Memory) (λ why. why ≡ fault.Memory → P) r (λ why never is. absurd (never is)) other
 
--- a table of level 0 stands before all
+-- a table of level 0 is before all
 pub first_of_all : (t : Table) (tables : List Table) → t.level ≡ 0 → AllByRecursion (StandsBefore t) tables
 first_of_all t [] zero_level = tt
 first_of_all t (u ∷ more) zero_level = (
@@ -120,8 +120,8 @@ first_of_all t (u ∷ more) zero_level = (
 )
 
 -- of a state with another log, whose memory entries are what is flushed
-module _ (image_law : OtherImageIsFollowed) (flush_law : FlushedIsFollowed) (spelling : Spelling) (built_cutoff : ℕ → List Leaf → ℕ) (store : StoreValue) (s : State) (records : List Entry) (parts : Built) (row : Row) (next : Manifest)
-    (whole : IsConsistent store) (plan : IsPlan spelling built_cutoff store.manifest (outputs_in store.job) (newest_entries records) parts row next) where
+module _ (image_law : OtherImageIsFollowed) (flush_law : FlushedIsFollowed) (spelling : Spelling) (built_cutoff : ℕ → List Leaf → ℕ) (store : StoreValue) (s : State) (records : List Change) (parts : Built) (row : Row) (next : Manifest)
+    (whole : IsConsistent store) (plan : IsPlan spelling built_cutoff store.manifest (outputs_in store.job) (source_of records).entries parts row next) (no_range : source_of records ≡ alone (source_of records).entries) where
   abbrev over : State
   over = record s { log = records }
 
@@ -137,9 +137,9 @@ module _ (image_law : OtherImageIsFollowed) (flush_law : FlushedIsFollowed) (spe
   abbrev need : ℕ
   need = table_pages (filter_bytes_of spelling built_cutoff) parts.settings parts.entries
 
-  -- the table that is made, the state and the manifest behind the flush
+  -- the table that is made, the state and the manifest after the flush
   abbrev made : Table
-  made = table_of (filter_bytes_of spelling built_cutoff) s.settings 0 row.first_page (newest_entries records)
+  made = table_of (filter_bytes_of spelling built_cutoff) s.settings 0 row.first_page (source_of records).entries
 
   abbrev to : State
   to = flushed_at (filter_bytes_of spelling built_cutoff) row.first_page (record s { log = records })
@@ -157,8 +157,8 @@ module _ (image_law : OtherImageIsFollowed) (flush_law : FlushedIsFollowed) (spe
   abbrev Either : Image → Type 0
   Either image = StandsForMap spelling (state_map s) image ⊎ StandsForMap spelling (state_map over) image
 
-  abbrev Held : Image → Type 0
-  Held = TableAgrees spelling (opened_of built_cutoff parts row) made
+  abbrev Agrees : Image → Type 0
+  Agrees = TableAgrees spelling (opened_of built_cutoff parts row) made
 
   -- the table as the call that writes it says it
   abbrev IsThere : Image → Type 0
@@ -175,20 +175,20 @@ module _ (image_law : OtherImageIsFollowed) (flush_law : FlushedIsFollowed) (spe
     settings_are : parts.settings ≡ s.settings
     settings_are = ap (λ (b : Built). b.settings) plan.parts_are ∙ sym agrees.settings
 
-    entries_are : parts.entries ≡ newest_entries records
+    entries_are : parts.entries ≡ (source_of records).entries
     entries_are = ap (λ (b : Built). b.entries) plan.parts_are
 
     few : length s.tables < 1024
     few = omega (arith, plan.few, agrees.many)
 
     -- the pages of the table are free
-    gap : first_gap s.pages (taken s) (table_pages (filter_bytes_of spelling built_cutoff) s.settings (newest_entries records)) ≡ Some row.first_page
+    gap : first_gap s.pages (taken s) (table_pages (filter_bytes_of spelling built_cutoff) s.settings (source_of records).entries) ≡ Some row.first_page
     gap =
-        ap₂ (λ (n : ℕ) (es : List Extent). first_gap n es (table_pages filter_bytes s.settings (newest_entries records))) agrees.pages agrees.taken_is
-        ∙ ap (λ (set : Settings). first_gap v.pages (extents_with v (outputs_in store.job)) (table_pages filter_bytes set (newest_entries records))) agrees.settings
+        ap₂ (λ (n : ℕ) (es : List Extent). first_gap n es (table_pages filter_bytes s.settings (source_of records).entries)) agrees.pages agrees.taken_is
+        ∙ ap (λ (set : Settings). first_gap v.pages (extents_with v (outputs_in store.job)) (table_pages filter_bytes set (source_of records).entries)) agrees.settings
         ∙ plan.place
 
-    need_is : table_pages (filter_bytes_of spelling built_cutoff) s.settings (newest_entries records) ≡ need
+    need_is : table_pages (filter_bytes_of spelling built_cutoff) s.settings (source_of records).entries ≡ need
     need_is = ap₂ (λ (set : Settings) (es : List Entry). table_pages filter_bytes set es) (sym settings_are) (sym entries_are)
 
     free : IsOnDevice s.pages (row.first_page, need) × AllByRecursion (AreApart (row.first_page, need)) (taken s)
@@ -201,7 +201,7 @@ module _ (image_law : OtherImageIsFollowed) (flush_law : FlushedIsFollowed) (spe
 
     -- ---- the table
 
-    held_there : (image : Image) → IsThere image → IsOpenThere image → Held image
+    held_there : (image : Image) → IsThere image → IsOpenThere image → Agrees image
     held_there image is stands =
         let first : TableAgrees spelling (opened_of built_cutoff parts (made_row spelling built_cutoff parts 0 row.first_page))
         (table_of filter_bytes parts.settings 0 row.first_page parts.entries) image =
@@ -214,7 +214,7 @@ module _ (image_law : OtherImageIsFollowed) (flush_law : FlushedIsFollowed) (spe
         (subst (λ (set : Settings). TableAgrees spelling (opened_of built_cutoff parts row) (table_of filter_bytes set 0 row.first_page parts.entries) image) settings_are
         (subst (λ (r : Row). TableAgrees spelling (opened_of built_cutoff parts r) (table_of filter_bytes parts.settings 0 row.first_page parts.entries) image) (sym plan.row_is) first))
 
-    held_apart : (at n : ℕ) (f g : Image) → at + n ≤ 4096 * row.first_page → Torn at n f g → Held f → Held g
+    held_apart : (at n : ℕ) (f g : Image) → at + n ≤ 4096 * row.first_page → Torn at n f g → Agrees f → Agrees g
     held_apart at n f g before torn held =
         (held_kept spelling at n f g torn (opened_of built_cutoff parts row ∷ []) (made ∷ []) (inr (omega (arith, before)), tt) (held, tt)).0
 
@@ -224,10 +224,10 @@ module _ (image_law : OtherImageIsFollowed) (flush_law : FlushedIsFollowed) (spe
         (free_apart spelling (place_of m.slot) (other_place m.slot) m.other_open v s row.first_page need f from free.1 u.ready) torn u
 
     pub table_leads : {T E : Type 0} (result : Result T E) (b : World) → WriteMoves (byte_of_page row.first_page) (4096 * need) a b → OnOk result (Now IsThere b)
-        → OnOk result (Now IsOpenThere b) → Leads Under Under (λ image. Under image × Held image) result a b
+        → OnOk result (Now IsOpenThere b) → Leads Under Under (λ image. Under image × Agrees image) result a b
     table_leads result b moves is stands =
-        leads_around Under Held (4096 * row.first_page) (4096 * need) result a b table_keeps moves.time
-        (on_ok_two (Now IsThere b) (Now IsOpenThere b) (Now Held b) result (λ t o image here. held_there image (t image here) (o image here)) is stands)
+        leads_around Under Agrees (4096 * row.first_page) (4096 * need) result a b table_keeps moves.time
+        (on_ok_two (Now IsThere b) (Now IsOpenThere b) (Now Agrees b) result (λ t o image here. held_there image (t image here) (o image here)) is stands)
 
     pub no_table : {T U E : Type 0} (first : Result T E) (result : Result U ManifestFault) (b : World) → WriteMoves (byte_of_page row.first_page) (4096 * need) a b
         → OnOk first (Now IsThere b) → OnOk first (Now IsOpenThere b) → IsErr result → IfErr result (λ why. why ≢ fault.Memory)
@@ -249,7 +249,7 @@ module _ (image_law : OtherImageIsFollowed) (flush_law : FlushedIsFollowed) (spe
       other : area ≢ store.log.area
       other same = absurd (omega (arith, page_is, whole.area, same))
 
-      log_keeps : (f g : Image) → Under f × Held f → Torn (start_of area) 1 f g → Under g × Held g
+      log_keeps : (f g : Image) → Under f × Agrees f → Torn (start_of area) 1 f g → Under g × Agrees g
       log_keeps f g both torn = (
         under_kept spelling m store.tables store.job whole.slot whole.rows image_law s (start_of area) 1 f g
             (other_log_apart spelling (place_of m.slot) (other_place m.slot) m.other_open v s store.log.area area (start_of area) 1 f tied.sound.on_device whole.area other small
@@ -258,15 +258,15 @@ module _ (image_law : OtherImageIsFollowed) (flush_law : FlushedIsFollowed) (spe
       )
 
       pub log_leads : {T E : Type 0} (result : Result T E) (b c : World) → WriteMoves (start_of area) 1 b c → OnOk result (Now (LogIs area []) c)
-          → Leads (λ image. Under image × Held image) (λ image. Under image × Held image) (λ image. (Under image × Held image) × LogIs area [] image) result b c
+          → Leads (λ image. Under image × Agrees image) (λ image. Under image × Agrees image) (λ image. (Under image × Agrees image) × LogIs area [] image) result b c
       log_leads result b c moves log =
-          leads_around (λ image. Under image × Held image) (LogIs area []) (start_of area) 1 result b c log_keeps moves.time log
+          leads_around (λ image. Under image × Agrees image) (LogIs area []) (start_of area) 1 result b c log_keeps moves.time log
 
       -- ---- the version
 
-      -- all that lies behind the slots
+      -- all that lies after the slots
       abbrev Behind : Image → Type 0
-      Behind image = IsNamedBy spelling v (as_shown s) image × TablesAgree spelling store.tables s.tables image × Held image × LogIs area [] image × UnnamedStand spelling s image
+      Behind image = IsNamedBy spelling v (as_shown s) image × TablesAgree spelling store.tables s.tables image × Agrees image × LogIs area [] image × UnnamedStand spelling s image
           × RunsAs spelling store.tables store.job s s.job image
 
       slots_keep : (f g : Image) → Behind f → Torn (other_place m.slot) 131072 f g → Behind g
@@ -283,12 +283,12 @@ module _ (image_law : OtherImageIsFollowed) (flush_law : FlushedIsFollowed) (spe
                 (unnamed_apart s (other_place m.slot) 131072 tied.sound.on_device (omega (arith, before))) here.5,
           )
 
-      is_flushed : (image : Image) → Held image → flushed (filter_bytes_of spelling built_cutoff) over ≡ Ok to
+      is_flushed : (image : Image) → Agrees image → flushed (filter_bytes_of spelling built_cutoff) over ≡ Ok to
       is_flushed image held =
-          let some : 1 ≤ length (newest_entries records) = omega (arith, held.stands.at.table.some, ap (λ (t : Table). length t.entries) held.table_is) in
-          flushed_done filter_bytes over (λ none. absurd (omega (arith, some, ap length none))) few row.first_page gap (below_last s.epoch (omega (arith, plan.epoch, agrees.epoch)))
+          let some : 1 ≤ length (source_of records).entries = omega (arith, held.stands.at.table.some, ap (λ (t : Table). length t.entries) held.table_is) in
+          flushed_done filter_bytes over (λ none. absurd (omega (arith, some, ap length none))) few no_range row.first_page gap (below_last s.epoch (omega (arith, plan.epoch, agrees.epoch)))
 
-      new_named : (image : Image) → IsNamedBy spelling v (as_shown s) image → Held image → LogIs area [] image → IsNamedBy spelling (raised new.version) (as_shown to) image
+      new_named : (image : Image) → IsNamedBy spelling v (as_shown s) image → Agrees image → LogIs area [] image → IsNamedBy spelling (raised new.version) (as_shown to) image
       new_named image named held log = record {
         settings = named.settings;
         pages = named.pages;
@@ -297,7 +297,9 @@ module _ (image_law : OtherImageIsFollowed) (flush_law : FlushedIsFollowed) (spe
         order = all_pairs StandsBefore (made ∷ s.tables) (first_of_all made s.tables refl, pairs_of StandsBefore s.tables tied.sound.order);
         area = area;
         area_is = page_is;
+        entries = [];
         log = log;
+        sets = refl;
         no_job = refl;
         none_kept = refl;
       }
@@ -327,16 +329,16 @@ module _ (image_law : OtherImageIsFollowed) (flush_law : FlushedIsFollowed) (spe
 
       pub install_leads : {T E : Type 0} (result : Result T E) (c d : World) → MayInstall i → WriteMoves (other_place next.slot) 131072 c d
           → Leads (StandsInSlot next.slot next.other_open v) (IsOldOrNew (install_of next v)) (IsInstalled (install_of next v)) result c d
-          → Leads (λ image. (Under image × Held image) × LogIs area [] image) Either
+          → Leads (λ image. (Under image × Agrees image) × LogIs area [] image) Either
           (RepresentsOn spelling (installed_manifest next) (opened_of built_cutoff parts row ∷ store.tables) store.job to) result c d
       install_leads result c d may moves leads =
           let moved : WriteMoves (other_place m.slot) 131072 c d = subst (λ (n : Manifest). WriteMoves (other_place n.slot) 131072 c d) plan.next_is moves in
           let own : Leads (StandsInSlot m.slot m.other_open v) (IsOldOrNew i) (IsInstalled i) result c d =
           subst (λ (n : Manifest). Leads (StandsInSlot n.slot n.other_open v) (IsOldOrNew (install_of n v)) (IsInstalled (install_of n v)) result c d) plan.next_is leads in
-          subst (λ (n : Manifest). Leads (λ image. (Under image × Held image) × LogIs area [] image) Either
+          subst (λ (n : Manifest). Leads (λ image. (Under image × Agrees image) × LogIs area [] image) Either
           (RepresentsOn spelling (installed_manifest n) (opened_of built_cutoff parts row ∷ store.tables) store.job to) result c d) (sym plan.next_is)
           (leads_weaker (λ image. Behind image × StandsInSlot m.slot m.other_open v image) (λ image. Behind image × IsOldOrNew i image) (λ image. Behind image × IsInstalled i image)
-          (λ image. (Under image × Held image) × LogIs area [] image) Either
+          (λ image. (Under image × Agrees image) × LogIs area [] image) Either
           (RepresentsOn spelling (installed_manifest new) (opened_of built_cutoff parts row ∷ store.tables) store.job to) result c d
           (leads_framed Behind (StandsInSlot m.slot m.other_open v) (IsOldOrNew i) (IsInstalled i) (other_place m.slot) 131072 result c d slots_keep moved.time own)
           (λ image all. (
@@ -351,7 +353,7 @@ module _ (image_law : OtherImageIsFollowed) (flush_law : FlushedIsFollowed) (spe
       Map = StandsForMap spelling (state_map s)
 
       abbrev Started : Image → Type 0
-      Started image = (Under image × Held image) × LogIs area [] image
+      Started image = (Under image × Agrees image) × LogIs area [] image
 
       abbrev Done : Image → Type 0
       Done = RepresentsOn spelling (installed_manifest next) (opened_of built_cutoff parts row ∷ store.tables) store.job to
@@ -369,9 +371,9 @@ module _ (image_law : OtherImageIsFollowed) (flush_law : FlushedIsFollowed) (spe
           (log_moves : WriteMoves (start_of area) 1 b c) where
         begun : {T E : Type 0} (result : Result T E) → OnOk result (Now (LogIs area []) c) → Leads Under Map Started result a c
         begun result log =
-            leads_then {T = Unit {0}} {E = Unit {0}} Under Under (λ image. Under image × Held image) Map Started tt result a b c to_map
+            leads_then {T = Unit {0}} {E = Unit {0}} Under Under (λ image. Under image × Agrees image) Map Started tt result a b c to_map
             (table_leads {T = Unit {0}} {E = Unit {0}} (Ok tt) b table_moves table_is table_opens)
-            (leads_weaker (λ image. Under image × Held image) (λ image. Under image × Held image) Started (λ image. Under image × Held image) Map Started result b c
+            (leads_weaker (λ image. Under image × Agrees image) (λ image. Under image × Agrees image) Started (λ image. Under image × Agrees image) Map Started result b c
             (log_leads result b c log_moves log) (λ f both. both) (λ f both. to_map f both.0) (λ f all. all))
 
         pub no_log : {T U E : Type 0} (first : Result T E) (result : Result U ManifestFault) → OnOk first (Now (LogIs area []) c) → IsErr result → IfErr result (λ why. why ≢ fault.Memory)
@@ -389,7 +391,7 @@ module _ (image_law : OtherImageIsFollowed) (flush_law : FlushedIsFollowed) (spe
           all_leads first leads =
               leads_then {T = Unit {0}} {E = Unit {0}} Under Map Started Either Done tt first a c d (λ f map. inl map) (begun {T = Unit {0}} {E = Unit {0}} (Ok tt) log) (install_leads first c d (may sound) moves leads)
 
-          -- where no call was made behind them
+          -- where no call was made after them
           still_map : ReadMoves 0 c d → Meanwhile Map a d
           still_map reads =
               let before = begun {T = Unit {0}} {E = Unit {0}} (Ok tt) log in

@@ -8,12 +8,13 @@ use Rattle.filter_api.specs.Spellings.{Spelling}
 use Rattle.image_model.proofs.Frames.{log_replaced, ready_is_state, ready_kept}
 use Rattle.image_model.proofs.Placed.{behind_logs}
 use Rattle.image_model.specs.Frames.{IsApartFromExtent, IsApartFromReady}
-use Rattle.image_model.specs.Stands.{StandsForMap}
+use Rattle.image_model.specs.Stands.{StandsForMap, as_shown}
 use Rattle.log_model.specs.Area.{LogIs, start_of}
 use Rattle.manifest.specs.Manifest.{Manifest, other_place, place_of}
 use Rattle.manifest_model.specs.Slots.{AreSlots}
 use Rattle.manifest_model.specs.Version.{log_page_of}
 use Rattle.extent_model.specs.Extents.{IsOnDevice}
+use Rattle.range_model.specs.Sources.{Sets}
 use Rattle.state_model.specs.State.{Job, State, written_by}
 use Rattle.state_model.specs.Taken.{extent_of, taken}
 use Rattle.state_model.specs.View.{state_map}
@@ -29,6 +30,7 @@ use Rattle.level_merge.specs.JobValue.{JobValue}
 use Rattle.store_search.specs.TablesAgree.{TableAgrees, TablesAgree}
 use Rattle.store_core.specs.Running.{RunsAs}
 use Rattle.store_core.specs.Represents.{RepresentsOn}
+use Rattle.store_core.proofs.Recorded.{entries_in, named_log}
 use Rattle.store_core.proofs.Runs.{front_of, made_held, rows_apart, runs_as, unnamed_apart}
 
 pub are_slots : (slot : ℕ) → slot ≤ 1 → AreSlots (place_of slot) (other_place slot)
@@ -58,7 +60,7 @@ module _ (spelling : Spelling) (at n : ℕ) (f g : Image) (torn : Torn at n f g)
 
 -- ---- the merge that runs
 
--- what is written apart from what it has made changes nothing of it, as long as its tables stand
+-- what is written apart from what it has made changes nothing of it, as long as its tables stay
 pub runs_kept : OtherImageIsFollowed → (spelling : Spelling) (s : State) (at n : ℕ) (f g : Image) → Torn at n f g → (opened : List Opened) → TablesAgree spelling opened s.tables f
     → TablesAgree spelling opened s.tables g → (running : Option JobValue) (job : Option Job) → AllByRecursion (IsApartFromExtent at n) (map extent_of (written_by job ++ s.kept))
     → RunsAs spelling opened running s job f → RunsAs spelling opened running s job g
@@ -87,14 +89,14 @@ module _ (spelling : Spelling) (m : Manifest) (opened : List Opened) (running : 
   -- with another log in the area in use
   pub under_logged : OtherImageIsFollowed → (s : State) (log : List Entry) (area at n : ℕ) (f g : Image) → AllByRecursion (IsOnDevice s.pages) (taken s) → m.version.log_page ≡ log_page_of area
       → start_of area ≤ at → at + n ≤ start_of area + 262144 → area ≤ 1 → Torn at n f g → LogIs area log g
-      → RepresentsOn spelling m opened running s f → RepresentsOn spelling m opened running (record s { log = log }) g
+      → RepresentsOn spelling m opened running s f → RepresentsOn spelling m opened running (record s { log = map Sets log }) g
   under_logged law s log area at n f g on page_is from to small torn spelled under =
       let tables = held_kept spelling at n f g torn opened s.tables
       (subst (AllByRecursion (IsApartFromRow at n)) (sym rows) (behind_logs m.version at n under.ready.current.here.sound (omega (arith, to, small)))) under.tables in
       record {
         ready = log_replaced spelling (place_of m.slot) (other_place m.slot) m.other_open m.version s log area at n f g (are_slots m.slot few) on page_is from to torn spelled under.ready;
         tables = tables;
-        job = runs_as spelling s (record s { log = log }) opened g running s.job refl refl
+        job = runs_as spelling s (record s { log = map Sets log }) opened g running s.job refl refl
             (runs_kept law spelling s at n f g torn opened under.tables tables running s.job (unnamed_apart s at n on (omega (arith, to, small))) under.job);
       }
 
@@ -103,9 +105,9 @@ module _ (spelling : Spelling) (m : Manifest) (opened : List Opened) (running : 
   under_stands s image under =
       (s, (m.version, ready_is_state spelling (place_of m.slot) (other_place m.slot) m.other_open m.version s image (are_slots m.slot few) under.ready), refl)
 
-  -- the log stands in the area in use
-  pub under_log : (s : State) (area : ℕ) (image : Image) → m.version.log_page ≡ log_page_of area → RepresentsOn spelling m opened running s image → LogIs area s.log image
+  -- the log is in the area in use
+  pub under_log : (s : State) (area : ℕ) (image : Image) → m.version.log_page ≡ log_page_of area → RepresentsOn spelling m opened running s image → LogIs area (entries_in s) image
   under_log s area image page_is under =
       let named = under.ready.named in
       let same : named.area ≡ area = omega (arith, named.area_is, page_is) in
-      subst (λ (n : ℕ). LogIs n s.log image) same named.log
+      subst (λ (n : ℕ). LogIs n (entries_in s) image) same (named_log spelling m.version (as_shown s) image named)

@@ -1,4 +1,4 @@
--- The tables of a merge stand in the place of those that it read, in memory as in the state.
+-- The tables of a merge take the place of those that it read, in memory as in the state.
 use Rattle.std.proofs.Common.{◌≡◌, ◌∙◌, ℕ, suc, Bool, true, false, cond, List, [], ◌∷◌, length, fold, refl, sym, ap, subst}
 use Rattle.std.specs.Prelude.{◌==◌, ◌&&◌, ◌||◌, nat_lt}
 use Rattle.std.specs.List.{list_any}
@@ -13,7 +13,7 @@ use Rattle.state_model.specs.Merges.{least_key}
 use Rattle.state_model.specs.Tends as model
 use Rattle.table_file.specs.Opened.{Opened}
 use Rattle.table_model.specs.Tables.{Table}
-use Rattle.store_core.specs.Replacing.{goes_before, others_in, put_in}
+use Rattle.store_core.specs.Install.{goes_before, others_in, put_in}
 
 -- ---- tables that are held are alike
 

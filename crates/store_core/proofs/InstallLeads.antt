@@ -1,6 +1,6 @@
 -- A version is installed whose rows are those of open tables: what a crash leaves meanwhile.
 use Rattle.std.proofs.Common.{◌≡◌, inl, inr, ◌≤◌, ◌<◌, ◌+◌, ℕ, true, List, [], ◌∷◌, refl, sym, ap, subst, arith}
-use Rattle.std.specs.Prelude.{None, Result}
+use Rattle.std.specs.Prelude.{None, Result, map}
 use Rattle.std.specs.List.{AllPairs}
 use Rattle.disk_trait.specs.Image.{Image, Torn}
 use Rattle.disk_trait.specs.World.{Leads, World, WriteMoves}
@@ -28,6 +28,7 @@ use Rattle.table_file.specs.Opened.{Opened}
 use Rattle.table_model.specs.Tables.{Table}
 use Rattle.store_core.specs.StoreValue.{rows_of}
 use Rattle.store_core.proofs.Frames.{held_kept}
+use Rattle.range_model.specs.Sources.{Change, Sets}
 
 -- tables that are held are those of their rows
 pub held_are_tables : (spelling : Spelling) (image : Image) (opened : List Opened) (tables : List Table) → TablesAgree spelling opened tables image
@@ -38,7 +39,7 @@ held_are_tables spelling image (o ∷ opened) [] held = absurd held
 held_are_tables spelling image (o ∷ opened) (t ∷ tables) held = ((held.0.blocks, held.0.stands.at, held.0.table_is), held_are_tables spelling image opened tables held.1)
 
 -- a version of a store, the tables, the log and the area of the one to come, and the state under the one
-module _ (spelling : Spelling) (m : Manifest) (slot_few : m.slot ≤ 1) (is : IsVersion m.version) (opened : List Opened) (area : ℕ) (s : State) (tables : List Table) (log : List Entry) where
+module _ (spelling : Spelling) (m : Manifest) (slot_few : m.slot ≤ 1) (is : IsVersion m.version) (opened : List Opened) (area : ℕ) (s : State) (tables : List Table) (log : List Change) (records : List Entry) where
   -- the version to come, and the state under it
   abbrev pub next_of : Manifest
   next_of = record m { version = record m.version { log_page = log_page_of area; rows = rows_of opened } }
@@ -49,22 +50,22 @@ module _ (spelling : Spelling) (m : Manifest) (slot_few : m.slot ≤ 1) (is : Is
   abbrev i : Install
   i = install_of (record m { version = record m.version { log_page = log_page_of area; rows = rows_of opened } }) m.version
 
-  abbrev pub Held : Image → Type 0
-  Held = TablesAgree spelling opened tables
+  abbrev pub Agrees : Image → Type 0
+  Agrees = TablesAgree spelling opened tables
 
-  -- what an image shows before it, and behind it
+  -- what an image shows before it, and after it
   abbrev pub Before : Image → Type 0
-  Before image = IsReady spelling (place_of m.slot) (other_place m.slot) m.other_open m.version s image × (TablesAgree spelling opened tables image × LogIs area log image)
+  Before image = IsReady spelling (place_of m.slot) (other_place m.slot) m.other_open m.version s image × (TablesAgree spelling opened tables image × LogIs area records image)
 
-  abbrev pub After : Image → Type 0
-  After image = IsReady spelling (other_place m.slot) (place_of m.slot) true (raised (record m.version { log_page = log_page_of area; rows = rows_of opened }))
+  abbrev pub AfterInstall : Image → Type 0
+  AfterInstall image = IsReady spelling (other_place m.slot) (place_of m.slot) true (raised (record m.version { log_page = log_page_of area; rows = rows_of opened }))
       (record s { epoch = s.epoch + 1; log = log; tables = tables; job = None }) image × TablesAgree spelling opened tables image
 
   module _ (new_is : IsVersion (record m.version { log_page = log_page_of area; rows = rows_of opened })) (epoch : m.version.epoch < last_epoch) (none_kept : s.kept ≡ [])
-      (order : AllPairs StandsBefore tables) (same_map : state_map (record s { epoch = s.epoch + 1; log = log; tables = tables; job = None }) ≡ state_map s) where
-    -- all that lies behind the slots
+      (order : AllPairs StandsBefore tables) (sets : (image : Image) → IsNamedBy spelling m.version (as_shown s) image → log ≡ map Sets records) (same_map : state_map (record s { epoch = s.epoch + 1; log = log; tables = tables; job = None }) ≡ state_map s) where
+    -- all that lies after the slots
     abbrev Behind : Image → Type 0
-    Behind image = IsNamedBy spelling m.version (as_shown s) image × (TablesAgree spelling opened tables image × LogIs area log image)
+    Behind image = IsNamedBy spelling m.version (as_shown s) image × (TablesAgree spelling opened tables image × LogIs area records image)
 
     slots_keep : (f g : Image) → Behind f → Torn (other_place m.slot) 131072 f g → Behind g
     slots_keep f g here torn =
@@ -73,7 +74,7 @@ module _ (spelling : Spelling) (m : Manifest) (slot_few : m.slot ≤ 1) (is : Is
           (
             held_kept spelling (other_place m.slot) 131072 f g torn opened tables
                 (behind_logs (next_of).version (other_place m.slot) 131072 new_is (omega (arith, before))) here.1.0,
-            log_kept area log (other_place m.slot) 131072 f g (inr (omega (arith, before))) torn here.1.1,
+            log_kept area records (other_place m.slot) 131072 f g (inr (omega (arith, before))) torn here.1.1,
           ),
         )
 
@@ -86,7 +87,9 @@ module _ (spelling : Spelling) (m : Manifest) (slot_few : m.slot ≤ 1) (is : Is
       order = order;
       area = area;
       area_is = refl;
+      entries = records;
       log = here.1.1;
+      sets = sets image here.0;
       no_job = refl;
       none_kept = refl;
     }
@@ -98,7 +101,7 @@ module _ (spelling : Spelling) (m : Manifest) (slot_few : m.slot ≤ 1) (is : Is
     may : MayInstall i
     may = may_install next_of m.version slot_few (raised_is (next_of).version new_is (λ last. absurd (omega (arith, last, epoch)))) refl
 
-    ends : (image : Image) → Behind image × IsInstalled i image → After image
+    ends : (image : Image) → Behind image × IsInstalled i image → AfterInstall image
     ends image (here, there) = (
       installed_ready spelling i to image may there (new_named image here) (subst (λ (kept : List Table). Rattle.std.specs.List.AllByRecursion (Rattle.table_model.specs.Images.StandsInExtent spelling image) kept) (sym none_kept) tt),
       here.1.0,
@@ -106,10 +109,10 @@ module _ (spelling : Spelling) (m : Manifest) (slot_few : m.slot ≤ 1) (is : Is
 
     pub install_leads : {T E : Type 0} (result : Result T E) (c d : World) → WriteMoves (other_place m.slot) 131072 c d
         → Leads (StandsInSlot m.slot m.other_open m.version) (IsOldOrNew i) (IsInstalled i) result c d
-        → Leads Before (StandsForMap spelling (state_map s)) After result c d
+        → Leads Before (StandsForMap spelling (state_map s)) AfterInstall result c d
     install_leads result c d moves leads =
         leads_weaker (λ image. Behind image × StandsInSlot m.slot m.other_open m.version image) (λ image. Behind image × IsOldOrNew i image) (λ image. Behind image × IsInstalled i image)
-        Before (StandsForMap spelling (state_map s)) After result c d
+        Before (StandsForMap spelling (state_map s)) AfterInstall result c d
         (leads_framed Behind (StandsInSlot m.slot m.other_open m.version) (IsOldOrNew i) (IsInstalled i) (other_place m.slot) 131072 result c d slots_keep moves.time leads)
         (λ image all. ((all.0.named, all.1), record { current = all.0.current; gate = all.0.gate }))
         maps ends

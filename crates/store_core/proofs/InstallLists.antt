@@ -6,11 +6,11 @@ use Rattle.std.proofs.lemmas.Bool.{ne_eqb}
 use Rattle.block_model.proofs.Bounds.{weaker}
 use Rattle.extent_model.proofs.Lists.{Mutual, Pairs}
 use Rattle.table_file.specs.Opened.{Opened}
-use Rattle.store_core.specs.Replacing.{goes_before, others_in, put_in}
+use Rattle.store_core.specs.Install.{goes_before, others_in, put_in}
 
 -- ---- one that is put in
 
--- behind the others that it does not go before
+-- after the others that it does not go before
 pub put_behind : (new t : Opened) (more : List Opened) → goes_before new t ≡ false → put_in (t ∷ more) new ≡ t ∷ put_in more new
 put_behind new t more off = elim (goes_before new t) as (λ b. b ≡ false → cond b (new ∷ t ∷ more) (t ∷ put_in more new) ≡ t ∷ put_in more new) [ true ↦ λ never. absurd cc | false ↦ λ _. refl ] off
 

@@ -10,7 +10,7 @@ use Rattle.disk_trait.proofs.Calls.{reads_keep, reads_none}
 use Rattle.disk_trait.proofs.Moments.{in_call, started}
 use Rattle.filter_api.specs.Spellings.{Spelling}
 use Rattle.image_model.proofs.Frames.{ready_is_state}
-use Rattle.image_model.specs.Stands.{IsReady, StandsForMap}
+use Rattle.image_model.specs.Stands.{IsReady, StandsForMap, as_shown}
 use Rattle.key_base.specs.Limits.{last_epoch}
 use Rattle.level_merge.specs.Follows.{Follows}
 use Rattle.level_merge.specs.Laws.{StandingAgrees}
@@ -37,9 +37,8 @@ use Rattle.table_model.specs.Tables.{FilterBytes}
 use Rattle.store_core.specs.Answers.{stops}
 use Rattle.store_core.specs.Faults.{of_manifest_fault}
 use Rattle.store_core.specs.Flushing.{installed_manifest}
-use Rattle.store_core.specs.Installing.{Installs}
+use Rattle.store_core.specs.Install.{Installs, merged_manifest, tables_behind}
 use Rattle.store_core.specs.StoreValue.{StoreValue, rows_of}
-use Rattle.store_core.specs.Replacing.{merged_manifest, tables_behind}
 use Rattle.store_core.specs.Running.{IsRun, RunsAs}
 use Rattle.store_core.specs.Represents.{Represents, RepresentsOn}
 use Rattle.store_core.specs.declared.error.StoreError.{StoreError}
@@ -50,9 +49,10 @@ use Rattle.store_core.proofs.Dropped.{tied_dropped, tied_fields}
 use Rattle.store_core.proofs.FlushAnswers.{passed_on}
 use Rattle.store_core.proofs.Frames.{are_slots}
 use Rattle.store_core.proofs.InstallHeld.{many_held}
-use Rattle.store_core.proofs.InstallLeads.{After, Before, install_leads}
+use Rattle.store_core.proofs.InstallLeads.{AfterInstall, Before, install_leads}
 use Rattle.store_core.proofs.InstallOthers.{behind_held}
 use Rattle.store_core.proofs.InstallRefusals.{slot_writes}
+use Rattle.store_core.proofs.Recorded.{entries_in, named_log, named_only}
 
 -- ---- the state
 
@@ -86,7 +86,7 @@ module _ (agree : StandingAgrees) (spelling : Spelling) (bytes : FilterBytes) (s
   follows : (image : Image) → Under image → Follows spelling s store.tables image run job
   follows image under = subst (λ (j : Option Job). RunsAs spelling store.tables (Some run) s j image) runs under.job
 
-  to_before : (image : Image) → Under image → Before spelling store.manifest slot is behind store.log.area s (installed_tables s.tables job) s.log image
+  to_before : (image : Image) → Under image → Before spelling store.manifest slot is behind store.log.area s (installed_tables s.tables job) s.log (entries_in s) image
   to_before image under =
       let f = follows image under in
       let many = many_held spelling image store.tables s.tables under.tables in
@@ -96,7 +96,7 @@ module _ (agree : StandingAgrees) (spelling : Spelling) (bytes : FilterBytes) (s
         under.ready,
         (
           behind_held agree spelling image store.tables s.tables run job (state_apart bytes s tied.sound) there f.inputs under.tables made,
-          subst (λ (n : ℕ). LogIs n s.log image) same under.ready.named.log,
+          subst (λ (n : ℕ). LogIs n (entries_in s) image) same (named_log spelling m.version (as_shown s) image under.ready.named),
         ),
       )
 
@@ -125,7 +125,7 @@ module _ (agree : StandingAgrees) (spelling : Spelling) (bytes : FilterBytes) (s
         }));
   }
 
-  -- want of memory, as it is passed on
+  -- lack of memory, as it is passed on
   pub wanted : {T : Type 0} (result : Result T StoreError) (after : StoreValue) → IsErrAnd result (λ (e : StoreError). e ≡ error.Memory)
       → after.manifest ≡ store.manifest → after.tables ≡ store.tables → after.job ≡ None → after.log ≡ store.log → after.memory ≡ store.memory → after.blocks ≡ store.blocks
       → Installs {T = T} spelling bytes s job result after a a
@@ -145,14 +145,14 @@ module _ (agree : StandingAgrees) (spelling : Spelling) (bytes : FilterBytes) (s
 
     all_leads : {T E : Type 0} (result : Result T E) → m.version.epoch < last_epoch
         → Leads (StandsInSlot m.slot m.other_open m.version) (IsOldOrNew (install_of (merged_manifest m (rows_of behind)) m.version)) (IsInstalled (install_of (merged_manifest m (rows_of behind)) m.version)) result a b
-        → Leads (Before spelling m slot is behind store.log.area s (installed_tables s.tables job) s.log) (StandsForMap spelling (state_map s)) (After spelling m slot is behind store.log.area s (installed_tables s.tables job) s.log) result a b
+        → Leads (Before spelling m slot is behind store.log.area s (installed_tables s.tables job) s.log (entries_in s)) (StandsForMap spelling (state_map s)) (AfterInstall spelling m slot is behind store.log.area s (installed_tables s.tables job) s.log (entries_in s)) result a b
     all_leads result below leads =
         let left : s.epoch ≢ last_epoch = λ last. absurd (omega (arith, last, epoch, below)) in
-        install_leads spelling m slot is behind store.log.area s (installed_tables s.tables job) s.log
+        install_leads spelling m slot is behind store.log.area s (installed_tables s.tables job) s.log (entries_in s)
         (subst (λ (page : ℕ). IsVersion (record m.version { log_page = page; rows = rows_of behind })) area new_is) below tied.none_kept
-        (installed_sound bytes s job tied.sound runs done left).order (installed_keeps bytes s job tied.sound runs done left) result a b moves (page_same result leads)
+        (installed_sound bytes s job tied.sound runs done left).order (λ image named. (named_only spelling m.version (as_shown s) image named).log) (installed_keeps bytes s job tied.sound runs done left) result a b moves (page_same result leads)
 
-    befores : Now (Before spelling m slot is behind store.log.area s (installed_tables s.tables job) s.log) a
+    befores : Now (Before spelling m slot is behind store.log.area s (installed_tables s.tables job) s.log (entries_in s)) a
     befores image here = to_before image (tied.images image here)
 
     pub install_failed : {T U E : Type 0} (first : Result T E) (x : StoreError) (after : StoreValue) → m.version.epoch < last_epoch

@@ -16,7 +16,7 @@ use Rattle.state_model.specs.State.{Job}
 use Rattle.state_model.specs.Tends.{installed_tables, without}
 use Rattle.table_file.specs.Opened.{Opened}
 use Rattle.table_model.specs.Tables.{Table}
-use Rattle.store_core.specs.Replacing.{others_in, tables_behind}
+use Rattle.store_core.specs.Install.{others_in, tables_behind}
 use Rattle.store_core.proofs.InstallHeld.{fold_held, others_held}
 
 -- ---- at their places
@@ -107,7 +107,7 @@ module _ (all : List Table) (apart : Pairs Apart all) where
     pub without_others : without inputs all ≡ others_in which all
     without_others = tail_without all (tail_of all)
 
--- ---- all tables behind the install of a merge
+-- ---- all tables after the install of a merge
 
 pub behind_held : StandingAgrees → (spelling : Spelling) (image : Image) (opened : List Opened) (tables : List Table) (m : JobValue) (job : Job) → Pairs Apart tables
     → AllByRecursion (λ (n : ℕ). n < length tables) (numbers m.merge.walks) → map (numbered tables) (numbers m.merge.walks) ≡ map (λ (t : Table). Some t) job.inputs

@@ -15,8 +15,7 @@ use Rattle.manifest_model.specs.Version.{Version}
 use Rattle.table_file.specs.Opened.{Opened}
 use Rattle.store_core.specs.Answers.{is_write}
 use Rattle.store_core.specs.Faults.{of_manifest_fault}
-use Rattle.store_core.specs.Installing.{IsInstallRefusal}
-use Rattle.store_core.specs.Replacing.{others_in}
+use Rattle.store_core.specs.Install.{IsInstallRefusal, others_in}
 use Rattle.store_core.specs.declared.error.StoreError.{StoreError}
 
 pub below_last : (n : ℕ) → n < 2 ^ 64 → n ≢ last_epoch → n < last_epoch

@@ -3,7 +3,7 @@ use Rattle.std.proofs.Common.{◌≡◌, ◌∙◌, ◌+◌, ◌-◌, ◌<◌, �
 use Rattle.std.specs.Prelude.{◌==◌}
 use Rattle.std.specs.List.{insert, list_any, remove}
 use Rattle.table_file.specs.Opened.{Opened}
-use Rattle.store_core.specs.Replacing.{goes_before, others_in, put_in}
+use Rattle.store_core.specs.Install.{goes_before, others_in, put_in}
 use Rattle.store_core.proofs.InstallLists.{put_behind, put_here}
 
 -- ---- the place of a table
@@ -28,7 +28,7 @@ look_found new t [] place there at on = absurd (omega (arith, there))
 look_found new t (x ∷ tables) zero there at on = let same : t ≡ x = at in put_here new x tables (subst (λ (y : Opened). goes_before new y ≡ true) same on)
 look_found new t (x ∷ tables) (suc place) there at on = ap (λ (l : List Opened). x ∷ l) (look_found new t tables place (omega (arith, there)) at on)
 
--- or it is behind all
+-- or it is after all
 pub look_end : (new : Opened) (tables : List Opened) → take (length tables) tables ++ put_in (drop (length tables) tables) new ≡ insert tables (length tables) new
 look_end new [] = refl
 look_end new (x ∷ tables) = ap (λ (l : List Opened). x ∷ l) (look_end new tables)

@@ -43,6 +43,7 @@ pub mod Overs
 pub mod PlannedRows
 pub mod Plans
 pub mod PlansMade
+pub mod Recorded
 pub mod RecordsLeft
 pub mod Refusals
 pub mod Resets

@@ -23,7 +23,7 @@ use Rattle.table_file.specs.Building.{Built}
 use Rattle.store_core.specs.Flushing.{entries_above, entries_below}
 use Rattle.store_core.proofs.PlannedRows.{each_behind, front_follows}
 
--- ---- what stands before a key, and what behind it
+-- ---- what is before a key, and what after it
 
 before_of_less : (a b : Bytes) → byte_order a b ≡ Less → is_before a b ≡ true
 before_of_less a b less = ap is_lt less
@@ -50,7 +50,7 @@ same_of a b is = (bytes_eq-Decides a b).0 (not_false (bytes_eq a b) is)
     not_false true same = refl
     not_false false same = sym same
 
--- not before the key and another one: behind it
+-- not before the key and another one: after it
 pub behind_of : (key other : Bytes) → is_before other key ≡ false → other ≢ key → byte_order key other ≡ Less
 behind_of key other not_before unlike = by_order (λ o. byte_order key other ≡ o → byte_order key other ≡ Less) key other
     (λ _ is. is)
@@ -58,7 +58,7 @@ behind_of key other not_before unlike = by_order (λ o. byte_order key other ≡
     (λ greater _. absurd (let both = sym (before_of_less other key (less_of_greater key other greater)) ∙ not_before in cc))
     refl
 
--- those behind a key are above it, and none of them is below it
+-- those after a key are above it, and none of them is below it
 all_above : (key : Bytes) (entries : List Entry) → AllByRecursion (ComesBehind key) entries → entries_above entries key ≡ entries
 all_above key [] behind = refl
 all_above key (e ∷ more) behind =
@@ -148,7 +148,7 @@ module _ (entries : List Entry) (e : Entry) (rises : KeysRise entries) where
 
 -- ---- what a loop adds
 
--- an entry of a memory behind some others, and before the rest
+-- an entry of a memory after some others, and before the rest
 module _ (all front : List Entry) (e : Entry) (rest : List Entry) (are : front ++ e ∷ rest ≡ all) where
   pub is_sound_there : AllByRecursion IsEntry all → IsEntry e
   is_sound_there sound = each_behind IsEntry front e rest (subst (AllByRecursion IsEntry) (sym are) sound)

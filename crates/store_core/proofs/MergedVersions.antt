@@ -1,4 +1,4 @@
--- The version in which the tables of a merge stand in the place of those that it read keeps the rules.
+-- The version in which the tables of a merge take the place of those that it read keeps the rules.
 use Rattle.std.proofs.Common.{◌≡◌, inl, inr, ◌∙◌, ◌+◌, ◌≤◌, ◌++◌, ℕ, List, [], ◌∷◌, length, map, refl, sym, ap, subst, arith}
 use Rattle.std.specs.List.{AllByRecursion}
 use Rattle.std.proofs.lemmas.List.{length-map}
@@ -15,7 +15,7 @@ use Rattle.merge_rows.proofs.Begins.{numbers_known}
 use Rattle.merge_rows.specs.Steps.{numbers}
 use Rattle.table_file.specs.Opened.{Opened}
 use Rattle.store_core.specs.StoreValue.{rows_of}
-use Rattle.store_core.specs.Replacing.{merged_manifest, others_in, tables_behind}
+use Rattle.store_core.specs.Install.{merged_manifest, others_in, tables_behind}
 use Rattle.store_core.specs.Running.{IsRun, extents_with}
 use Rattle.store_core.proofs.InstallLists.{IsUpTo, all_first, all_of_seen, all_second, all_seen, fold_all, fold_length, fold_levels, fold_pairs, others_all, others_few, others_pairs, pairs_between, pairs_first, pairs_of_seen, pairs_second, pairs_seen}
 

@@ -37,7 +37,7 @@ module _ (bytes : FilterBytes) (v : Version) (outputs : List Row) (entries : Lis
   known_refused None why same is = absurd is
   known_refused (Some need) why same is = room_refused need why same is
 
--- ---- known behind a flush
+-- ---- known after a flush
 
 module _ (bytes : FilterBytes) (old new : StoreValue) (a b : World) where
   full_why : (why : StoreError) → IsFlushDue bytes old old.memory.entries a b why → (stops why ≡ false → IsAsItWas old new)

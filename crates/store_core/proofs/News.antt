@@ -32,7 +32,9 @@ fresh spelling settings pages image version log = (
       order = λ i j d before within. absurd (omega (arith, within));
       area = 0;
       area_is = refl;
+      entries = [];
       log = log;
+      sets = refl;
       no_job = refl;
       none_kept = refl;
     };

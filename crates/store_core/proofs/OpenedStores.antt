@@ -48,6 +48,11 @@ use Rattle.store_search.proofs.Caches.{none_true}
 use Rattle.store_core.proofs.Causes.{refusal_behind}
 use Rattle.store_core.proofs.OpeningTables.{all_opened, as_many, held_of, ranges_are}
 use Rattle.store_core.proofs.Runs.{none_run}
+use Rattle.store_core.proofs.Recorded.{entries_in, named_log, named_only}
+use Rattle.range_model.specs.Sources.{Source}
+use Rattle.state_model.proofs.WithoutRanges.{memory_alone}
+use Rattle.state_model.specs.View.{memory}
+use Rattle.state_model.specs.Logs.{filled_by}
 
 -- ---- what is answered of an image
 
@@ -143,7 +148,7 @@ as_few ts rows same = sym (length-map ts _) ∙ ap length same
 -- ---- of an image that stands for a state
 
 module _ (spelling : Spelling) (one : SpellsOne spelling) (s : State) (image : Image) (is : IsStateOf spelling s image) where
-  -- nothing is refused but for want of memory, and where the device fails
+  -- nothing is refused but for lack of memory, and where the device fails
   pub free_of : (first : Bytes → Fault) (why : StoreError) → IsOpenAnswer spelling first image why → IsFailure why
   free_of first error.Memory answer = tt
   free_of first (error.Device cause) answer = tt
@@ -181,10 +186,14 @@ module _ (spelling : Spelling) (filter_bytes : FilterBytes) (one : SpellsOne spe
   named_so : IsNamedBy spelling v s image
   named_so = named spelling one s image is store.manifest opened.loaded
 
-  same_log : opened.entries ≡ s.log
+  same_log : opened.entries ≡ entries_in s
   same_log =
       let area : named_so.area ≡ opened.opens.area = omega (arith, named_so.area_is, opened.opens.area_is) in
-      one_list opened.entries s.log (area_in opened.opens.area image) opened.opens.log (subst (λ (n : ℕ). LogIs n s.log image) area named_so.log)
+      one_list opened.entries (entries_in s) (area_in opened.opens.area image) opened.opens.log
+      (subst (λ (n : ℕ). LogIs n (entries_in s) image) area (named_log spelling v s image named_so))
+
+  newest_are : newest_entries (entries_in s) ≡ memory s
+  newest_are = sym (ap (λ (source : Source). source.entries) (memory_alone s (entries_in s) (named_only spelling v s image named_so)))
 
   under : RepresentsOn spelling store.manifest store.tables store.job s image
   under = record {
@@ -206,11 +215,11 @@ module _ (spelling : Spelling) (filter_bytes : FilterBytes) (one : SpellsOne spe
     images = reads_keep (RepresentsOn spelling store.manifest store.tables store.job s) n a b reads
         (λ left_image left. subst (RepresentsOn spelling store.manifest store.tables store.job s) (sym (durable left_image left ∙ held_is)) under);
     log = opened.log ∙ ap filled same_log;
-    memory = opened.memory ∙ ap newest_entries same_log;
+    memory = opened.memory ∙ ap newest_entries same_log ∙ newest_are;
     blocks = subst (λ (b : Cached). CacheAgrees b store.tables s.tables) (sym opened.none_kept) (none_true store.tables s.tables);
   }
 
-  pub log_of : store.log.filled ≡ filled s.log
+  pub log_of : store.log.filled ≡ filled_by s.log
   log_of = opened.log ∙ ap filled same_log
 
   -- and the image shows it as that
@@ -218,12 +227,12 @@ module _ (spelling : Spelling) (filter_bytes : FilterBytes) (one : SpellsOne spe
   read_of = record {
     sound = state_sound spelling filter_bytes s image is;
     under = under;
-    memory = opened.memory ∙ ap newest_entries same_log;
+    memory = opened.memory ∙ ap newest_entries same_log ∙ newest_are;
   }
 
 -- where its log ends, of such an image
 pub opened_log : (spelling : Spelling) (first : Bytes → Fault) (filter_bytes : FilterBytes) (one : SpellsOne spelling) (s : State) (image : Image) (r : Result StoreValue StoreError)
-    → IsStateOf spelling s image → MatchResult r (IsOpenedAs spelling image) (IsOpenAnswer spelling first image) → IfOk r (λ store. store.log.filled ≡ filled s.log)
+    → IsStateOf spelling s image → MatchResult r (IsOpenedAs spelling image) (IsOpenAnswer spelling first image) → IfOk r (λ store. store.log.filled ≡ filled_by s.log)
 opened_log spelling first filter_bytes one s image (Ok store) is opened = log_of spelling filter_bytes one s store image is opened
 opened_log spelling first filter_bytes one s image (Err why) is answer = tt
 
@@ -241,7 +250,7 @@ pub opened_tied : (spelling : Spelling) (first : Bytes → Fault) (filter_bytes 
 opened_tied spelling first filter_bytes one s image n a b (Ok store) is held_is durable reads opened = tied_of spelling filter_bytes one s store image is opened n a b held_is durable reads
 opened_tied spelling first filter_bytes one s image n a b (Err why) is held_is durable reads answer = free_of spelling one s image is first why answer
 
--- behind a sync
+-- after a sync
 pub synced_refusal : (a b c : World) (r : Result StoreValue StoreError) → SyncMoves a b → IfErr r (IsOpenRefusal b c) → IfErr r (IsOpenRefusal a c)
 synced_refusal a b c (Ok store) sync is = tt
 synced_refusal a b c (Err why) sync is = refusal_behind a b c (omega (arith, sync.read_faults)) sync.write_faults why is

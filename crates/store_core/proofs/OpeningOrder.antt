@@ -10,7 +10,7 @@ use Rattle.manifest_model.specs.Tables.{KeyRange, follows, ranges_after, ranges_
 use Rattle.table_file.specs.Opened.{Opened}
 use Rattle.store_core.specs.Opening.{IsRangesDamage, opened_range}
 
--- of ranges whose first has none before it, where the second one's row stands at this place
+-- of ranges whose first has none before it, where the second one's row is at this place
 abbrev pub fault_from : ℕ → List KeyRange → Option Fault
 fault_from place [] = None
 fault_from place (range ∷ later) = ranges_after place range later
@@ -24,7 +24,7 @@ next_refused : (place : ℕ) (a b : KeyRange) (later : List KeyRange) → ranges
 unfolding ranges_after
 next_refused place a b later = refl
 
--- where the second stands behind the first, it is the first of those that are left
+-- where the second is after the first, it is the first of those that are left
 pub from_next : (place : ℕ) (a b : KeyRange) (later : List KeyRange) → follows a b ≡ true → fault_from place (a ∷ b ∷ later) ≡ fault_from (place + 64) (b ∷ later)
 from_next place a b later behind = next_refused place a b later ∙ ap (λ (t : Bool). refuse (not t) place 12 (ranges_after (place + 64) b later)) behind
 

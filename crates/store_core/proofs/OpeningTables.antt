@@ -76,7 +76,7 @@ module _ (spelling : Spelling) (first : Bytes → Fault) (image : Image) where
   table_answer row (table.Damaged d) (inl index) = inl index
   table_answer row (table.Damaged d) (inr filter) = inr (filter.0, inl filter.1)
 
-  -- ---- behind rows that are opened, the damage of one is that of all
+  -- ---- after rows that are opened, the damage of one is that of all
 
   breaks_first : (d : Damage) (row : Row) (later : List Row) → TablesBreak spelling (filter_fault_of first) image d (row ∷ [])
       → TablesBreak spelling (filter_fault_of first) image d (row ∷ later)
@@ -111,8 +111,8 @@ greatest_row (row ∷ next ∷ later) =
 
 range_is : (spelling : Spelling) (image : Image) (t : Opened) → IsOpen spelling t image → key_range_of image t.row ≡ opened_range t
 range_is spelling image t is =
-    ap (λ (x : Index). record { level = t.row.level; least = x.least; greatest = greatest_in x.rows }) (sym is.index_is)
-    ∙ ap (λ (key : Bytes). record { level = t.row.level; least = t.index.least; greatest = key }) (greatest_row t.index.rows)
+    ap (λ (x : Index). record { level = t.row.level; least = x.least; greatest = greatest_in x.rows; reach = [] }) (sym is.index_is)
+    ∙ ap (λ (key : Bytes). record { level = t.row.level; least = t.index.least; greatest = key; reach = [] }) (greatest_row t.index.rows)
 
 pub ranges_are : (spelling : Spelling) (image : Image) (ts : List Opened) → AreOpened spelling ts image
     → map (key_range_of image) (rows_of ts) ≡ map opened_range ts

@@ -4,6 +4,7 @@ use Rattle.std.specs.Prelude.{IfSome, Option, Some, None, nat_lt, ◌||◌, ◌=
 use Rattle.std.specs.Borrow.{Bor}
 use Rattle.std.specs.List.{AllByRecursion, list_any}
 use Rattle.block_model.specs.Block.{IsTable}
+use Rattle.block_model.specs.Order.{is_any}
 use Rattle.entry_model.proofs.Newest.{newest_more}
 use Rattle.entry_model.specs.Entries.{Entry, IsEntry, put_entry}
 use Rattle.entry_model.specs.Newest.{KeysRise, newest_entries, with_entry}
@@ -16,10 +17,11 @@ use Rattle.key_base.specs.Limits.{last_epoch}
 use Rattle.map_model.proofs.Maps.{by_order}
 use Rattle.map_model.specs.SortedMap.{Bytes, in_place}
 use Rattle.state_model.proofs.Places.{table_is_sound}
-use Rattle.state_model.proofs.Sayings.{newest_entries_rise}
+use Rattle.state_model.proofs.Sayings.{alone_is, newest_entries_rise, rises_follow}
 use Rattle.state_model.proofs.SoundChanges.{next_epoch}
-use Rattle.state_model.proofs.SoundLogs.{filled_none, logged_entries, newest_all, over_is_table}
-use Rattle.state_model.specs.Merges.{Plan, lasting, newest_of, on_level, outputs_for, planned}
+use Rattle.state_model.proofs.SoundLogs.{filled_none, logged_entries, newest_all}
+use Rattle.range_model.specs.Sources.{Source, alone}
+use Rattle.state_model.specs.Merges.{Plan, cut_for, lasting_of, merged_of, on_level, planned}
 use Rattle.state_model.specs.Sound.{AreMade, IsJob, IsSound, MayRun, StandsBefore, plan_of_job}
 use Rattle.state_model.specs.State.{Job, State}
 use Rattle.state_model.specs.Taken.{extent_of, taken}
@@ -28,21 +30,23 @@ use Rattle.table_model.specs.Tables.{FilterBytes, Table, table_of, table_pages}
 use Rattle.store_core.specs.Flushing.{DiffersInLog, entries_with, over_of, state_with}
 use Rattle.store_core.specs.StoreValue.{IsConsistent, StoreValue}
 use Rattle.store_core.proofs.Flushes.{first_of_all, some_pages}
+use Rattle.store_core.proofs.Recorded.{entries_in, no_range_with, one_more_made, over_table}
 use Rattle.store_core.proofs.Wholes.{memory_table}
+use Rattle.state_model.specs.WithoutRanges.{HasOnlyEntries}
 
 -- ---- what is flushed
 
 -- it differs from the state in its log alone
-pub differs : (s : State) (over : Option Entry) → DiffersInLog s (state_with s over)
-differs s None = refl
-differs s (Some e) = refl
+pub differs : (s : State) (over : Option Entry) → HasOnlyEntries s (entries_in s) → DiffersInLog s (state_with s over)
+differs s None only = (refl, no_range_with s None only)
+differs s (Some e) only = (refl, no_range_with s (Some e) only)
 
 -- and its memory entries are those that are flushed
 pub memory_with : (s : State) (over : Option Entry) → memory (state_with s over) ≡ entries_with (memory s) over
 memory_with s None = refl
-memory_with s (Some e) = newest_more s.log e
+memory_with s (Some e) = one_more_made s.log e
 
-pub flushed_entries_are : (s : State) (over : Option Entry) (entries : List Entry) → entries ≡ memory s → entries_with entries over ≡ newest_entries (state_with s over).log
+pub flushed_entries_are : (s : State) (over : Option Entry) (entries : List Entry) → entries ≡ memory s → entries_with entries over ≡ memory (state_with s over)
 flushed_entries_are s over entries are = ap (λ (es : List Entry). entries_with es over) are ∙ sym (memory_with s over)
 
 pub over_is_entry : (over : Option (Bor Bytes × Bor Bytes)) → IfSome over (λ pair. IsEntry (put_entry pair.0.now pair.1.now)) → IfSome (over_of over) IsEntry
@@ -71,7 +75,7 @@ module _ (store : StoreValue) (whole : IsConsistent store) where
   flushed_table (Some e) is some =
       let of = whole.entries in
       let same : newest_entries (of.entries ++ e ∷ []) ≡ with_entry store.memory.entries e = newest_more of.entries e ∙ ap (λ (es : List Entry). with_entry es e) (sym of.memory_is) in
-      subst IsTable same (over_is_table of.entries e of.sound is of.fits (subst (λ (es : List Entry). 1 ≤ length es) (sym same) (some_length (with_entry store.memory.entries e) some)))
+      subst IsTable same (over_table of.entries e of.sound is of.fits (subst (λ (es : List Entry). 1 ≤ length es) (sym same) (some_length (with_entry store.memory.entries e) some)))
 
 -- ---- a table more, in front of all
 
@@ -81,7 +85,7 @@ level_0 n = grind arith
 planned_again : (tables : List Table) (t : Table) (plan : Plan) → t.level ≡ 0 → planned tables plan ≡ planned (t ∷ tables) plan
 planned_again tables t plan zero_level =
     let shallow : nat_lt plan.output t.level ≡ false = ap (nat_lt plan.output) zero_level ∙ level_0 plan.output in
-    ap (λ (b : Bool). outputs_for plan.inputs (lasting (not (b || list_any (λ (u : Table). nat_lt plan.output u.level) tables)) (newest_of plan.inputs))) (sym shallow)
+    ap (λ (b : Bool). cut_for plan.inputs (lasting_of (not (b || list_any (λ (u : Table). nat_lt plan.output u.level) tables)) (merged_of plan.inputs))) (sym shallow)
 
 job_behind : (filter_bytes : FilterBytes) (settings : Settings) (tables : List Table) (t : Table) (job : Option Job) → t.level ≡ 0 → MayRun filter_bytes settings tables job → MayRun filter_bytes settings (t ∷ tables) job
 job_behind filter_bytes settings tables t None zero_level may = tt
@@ -91,7 +95,7 @@ job_behind filter_bytes settings tables t (Some job) zero_level is = record {
       subst (λ (b : Bool). suc is.flushes ≤ length (cond b (t ∷ on_level 0 tables) (on_level 0 tables))) (sym first) (omega (arith, is.few));
   chosen = is.chosen;
   to_read = is.to_read;
-  written = subst (λ (outputs : List (List Entry)). AreMade filter_bytes settings job.output outputs job.written) (planned_again tables t (plan_of_job job) zero_level) is.written;
+  written = subst (λ (outputs : List Source). AreMade filter_bytes settings job.output outputs job.written) (planned_again tables t (plan_of_job job) zero_level) is.written;
 }
 
 -- A sound state with a table of these entries at the first gap that holds it is sound, whether they are those of its memory or not.
@@ -109,7 +113,11 @@ placed_sound filter_bytes s entries page sound table few left gap =
       log = tt;
       log_fits = omega (arith, filled_none);
       few = omega (arith, few);
-      tables = (table_is_sound filter_bytes s.settings 0 page entries (omega arith) sound.settings sound.ratio table, sound.tables);
+      tables = (
+        table_is_sound filter_bytes s.settings 0 page (alone entries) (omega arith) sound.settings sound.ratio
+            (record { entries = table; source = alone_is entries (rises_follow is_any entries table.rising); bounds = tt }),
+        sound.tables,
+      );
       order = all_pairs StandsBefore (t ∷ s.tables) (first_of_all t s.tables refl, pairs_of StandsBefore s.tables sound.order);
       on_device = (free.0, sound.on_device);
       apart = all_pairs AreApart (extent_of t ∷ taken s) (free.1, pairs_of AreApart (taken s) sound.apart);

@@ -144,7 +144,7 @@ pub front_follows : (test : Bytes → Bool) (a b : List Entry) → Follow test (
 front_follows test [] b f = tt
 front_follows test (e ∷ a) b f = (f.0, front_follows (is_before e.key) a b f.1)
 
--- an entry of a table behind some others, and before the rest
+-- an entry of a table after some others, and before the rest
 module _ (all front : List Entry) (e : Entry) (rest : List Entry) (are : front ++ e ∷ rest ≡ all) (table : IsTable all) where
   here : IsTable (front ++ e ∷ rest)
   here = subst IsTable (sym are) table

@@ -21,7 +21,7 @@ module _ (store : StoreValue) (whole : IsConsistent store) where
   within : store.log.filled ≤ 262144
   within = omega (arith, whole.entries.filled_is, whole.entries.fits)
 
-  -- behind those of the log
+  -- after those of the log
   pub record_left : (n : ℕ) → store.log.filled + n ≤ 262144 → (a b : World) → WriteMoves (start_of store.log.area + store.log.filled) n a b → LeavesPlaces (IsInUse store.manifest store.log.filled) a b
   record_left n fits a b moves =
       let place : start_of store.log.area + store.log.filled ≡ 4096 * store.manifest.version.log_page + store.log.filled = omega (arith, whole.area) in
@@ -31,7 +31,7 @@ module _ (store : StoreValue) (whole : IsConsistent store) where
   pub flush_left : (a b : World) → LeavesPlaces (IsInUse store.manifest 262144) a b → LeavesPlaces (IsInUse store.manifest store.log.filled) a b
   flush_left a b left = leaves_fewer (IsInUse store.manifest 262144) (IsInUse store.manifest store.log.filled) a b (less_in_use store.manifest store.log.filled 262144 within) left
 
-  -- behind a flush, in the other area
+  -- after a flush, in the other area
   pub flush_then_record_left : (m : MemoryTable) → m.entries ≡ store.memory.entries → (area filled n : ℕ) → 262144 < store.log.filled + n → n ≤ 262144 → filled ≡ 0
       → (m.entries ≢ [] → other_log_page store.manifest.version ≡ log_page_of area) → (a b d : World) → LeavesPlaces (IsInUse store.manifest 262144) a b → WriteMoves (start_of area + filled) n b d
       → LeavesPlaces (IsInUse store.manifest store.log.filled) a d
@@ -64,7 +64,7 @@ module _ (store : StoreValue) (whole : IsConsistent store) where
   pub flush_own_left : (n : ℕ) (a b : World) → LeavesPlaces (IsInUse store.manifest 262144) a b → LeavesPlaces (IsBesideRecord store.manifest store.log.filled n) a b
   flush_own_left n a b left = leaves_fewer (IsInUse store.manifest 262144) (IsBesideRecord store.manifest store.log.filled n) a b (λ place is. is.0) left
 
-  -- behind a flush the record is in the other area
+  -- after a flush the record is in the other area
   pub flush_then_own_left : (m : MemoryTable) → m.entries ≡ store.memory.entries → (area filled n : ℕ) → 262144 < store.log.filled + n → n ≤ 262144 → filled ≡ 0
       → (m.entries ≢ [] → other_log_page store.manifest.version ≡ log_page_of area) → (a b d : World) → LeavesPlaces (IsInUse store.manifest 262144) a b → WriteMoves (start_of area + filled) n b d
       → LeavesPlaces (IsBesideRecord store.manifest store.log.filled n) a d

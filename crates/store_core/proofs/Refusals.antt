@@ -1,4 +1,4 @@
--- When a limit or want of room refuses a call.
+-- When a limit or lack of room refuses a call.
 use Rattle.std.proofs.Common.{◌≡◌, ◌≢◌, ◌⊎◌, inl, inr, ◌<◌, ◌+◌, ◌∙◌, Bool, true, false, cond, List, [], sym, ap, subst}
 use Rattle.std.specs.Prelude.{IfErr, OnOk, Option, Some, Result, Ok, Err}
 use Rattle.disk_trait.proofs.Calls.{reads_none}
@@ -163,7 +163,7 @@ module _ (bytes : FilterBytes) where
   none_asked store e short fits (inl long) = absurd (let both = sym short ∙ long in cc)
   none_asked store e short fits (inr wide) = fits wide
 
-  -- the record fits, or fits behind a flush of the store as it was seen before
+  -- the record fits, or fits after a flush of the store as it was seen before
   pub fits_allowed : {T : Type 0} (r : Result T StoreError) (seen : StoreValue) (e : Entry) → is_long e ≡ false → (log_bytes < seen.log.filled + need e → ⊥) → OnOk r (IsEntryAllowed bytes seen e)
   fits_allowed (Ok x) seen e short fits = λ asks some. absurd (none_asked seen e short fits asks)
   fits_allowed (Err x) seen e short fits = tt

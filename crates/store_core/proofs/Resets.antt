@@ -90,7 +90,7 @@ module _ (spelling : Spelling) (m : Manifest) (opened : List Opened) (running : 
 
   module _ (slot_few : m.slot ≤ 1) (is : IsVersion m.version) (new_is : IsVersion (with_numbers settings pages m.version.epoch m.version)) (below : m.version.epoch < last_epoch)
       (rows : rows_of opened ≡ m.version.rows) (none_kept : s.kept ≡ []) where
-    -- all that lies behind the slots
+    -- all that lies after the slots
     abbrev Behind : Image → Type 0
     Behind image = IsNamedBy spelling m.version (as_shown s) image × TablesAgree spelling opened s.tables image
 

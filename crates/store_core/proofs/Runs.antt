@@ -10,7 +10,6 @@ use Rattle.image_model.specs.Stands.{unnamed}
 use Rattle.level_merge.specs.FollowLaws.{FlushedIsFollowed}
 use Rattle.level_merge.specs.Follows.{Follows}
 use Rattle.store_search.specs.TablesAgree.{TablesAgree}
-use Rattle.level_merge.specs.Making.{OutputsLeft}
 use Rattle.level_merge.specs.JobValue.{JobValue}
 use Rattle.level_merge.specs.Plans.{numbered}
 use Rattle.manifest_model.specs.Version.{Version}
@@ -34,7 +33,9 @@ follows_as spelling s t opened image m job settings tables f = record {
   inputs = subst (λ (ts : List Table). map (numbered ts) (numbers m.merge.walks) ≡ map (λ (u : Table). Some u) job.inputs) (sym tables) f.inputs;
   output = f.output;
   to_read = f.to_read;
-  makes = subst (λ (ts : List Table). OutputsLeft spelling opened image m (outstanding ts job) job.written) (sym tables) f.makes;
+  left = f.left;
+  left_are = ap (λ (ts : List Table). outstanding ts job) tables ∙ f.left_are;
+  makes = f.makes;
 }
 
 pub runs_as : (spelling : Spelling) (s t : State) (opened : List Opened) (image : Image) (running : Option JobValue) (job : Option Job) → t.settings ≡ s.settings → t.tables ≡ s.tables
@@ -67,7 +68,7 @@ runs_behind law spelling v s after opened new t image (Some m) (Some job) level 
 
 -- ---- on another image
 
--- what it has made stands
+-- what it has made is there
 pub made_held : (spelling : Spelling) (s : State) (opened : List Opened) (image : Image) (m : JobValue) (job : Job) → Follows spelling s opened image m job
     → TablesAgree spelling m.made job.written image
 made_held spelling s opened image m job f = f.makes.made_are

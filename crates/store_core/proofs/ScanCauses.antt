@@ -21,7 +21,7 @@ use Rattle.store_core.specs.Scans.{IsScanShown, IsStepFault, IsWalkShown, ScanWa
 use Rattle.store_search.specs.TablesAgree.{TablesAgree}
 use Rattle.store_core.specs.declared.error.StoreError.{StoreError}
 use Rattle.std.specs.Result.{IsErrAnd}
-use Rattle.table_file.specs.Faults.{HasReadCause, IsNoDamage, IsNoWant}
+use Rattle.table_file.specs.Faults.{HasReadCause, IsNoDamage, IsNotMemory}
 use Rattle.table_file.specs.Laws.{StandingBlocks}
 use Rattle.table_model.specs.Tables.{Table}
 use Rattle.table_file.specs.Opened.{Opened}
@@ -30,13 +30,13 @@ use Rattle.table_file.specs.declared.fault.TableFault.{TableFault}
 use Rattle.table_file.specs.declared.fault.TableFault.TheVariants as table
 use Rattle.std.proofs.lemmas.List.{length-map}
 
-look_since : (a b c : World) (at : ℕ) (why : TableFault) → a.seen.read_faults ≤ b.seen.read_faults → IsNoWant why → HasReadCause at b c why → IsLookFault a c why
+look_since : (a b c : World) (at : ℕ) (why : TableFault) → a.seen.read_faults ≤ b.seen.read_faults → IsNotMemory why → HasReadCause at b c why → IsLookFault a c why
 look_since a b c at table.Memory earlier taken is = absurd taken
 look_since a b c at (table.Device cause) earlier taken is = (ap (λ (f : DiskFault). f.op) is.0, omega (arith, earlier, is.1))
 look_since a b c at (table.Damaged d) earlier taken is = taken
 
--- a read of some block failed, behind other reads
-pub block_cause : (a b c : World) (tables : List Opened) (which : List ℕ) (why : TableFault) → OnlyReads a b → IsNoWant why → SomeBlock tables which (λ t n. HasReadCause (byte_of_page (page_at t n)) b c why) → IsLookFault a c why
+-- a read of some block failed, after other reads
+pub block_cause : (a b c : World) (tables : List Opened) (which : List ℕ) (why : TableFault) → OnlyReads a b → IsNotMemory why → SomeBlock tables which (λ t n. HasReadCause (byte_of_page (page_at t n)) b c why) → IsLookFault a c why
 block_cause a b c tables which why moves taken is = look_since a b c (byte_of_page (page_at is.2.0 is.2.1)) why moves.1.read_faults taken is.2.4
 
 pub reads_on : (a b c : World) → OnlyReads a b → OnlyReads b c → OnlyReads a c
@@ -102,7 +102,7 @@ pub told_as : {T : Type 0} (P : StoreError → Type 0) (r : Result T StoreError)
 told_as P (Ok v) why told is = tt
 told_as P (Err e) why told is = subst P (sym told) is
 
--- a block of a table that stands there is not damaged
+-- a block of a table that is there is not damaged
 held_at : (spelling : Spelling) (image : Image) (opened : List Opened) (states : List Table) → TablesAgree spelling opened states image → (place : ℕ) (t : Opened) → slice_get opened place ≡ Some t
     → (blocks : List (List Entry)) × StandsThere spelling t blocks image
 held_at spelling image [] [] held place t is = absurd cc

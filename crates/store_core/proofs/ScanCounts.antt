@@ -1,5 +1,5 @@
 -- How many pairs a state has, and what is so of a count of them.
-use Rattle.std.proofs.Common.{◌≡◌, ◌∙◌, ◌≤◌, ◌<◌, ◌+◌, ◌-◌, ◌*◌, ℕ, zero, suc, Bool, true, false, cond, List, [], ◌∷◌, length, drop, refl, sym, ap, arith}
+use Rattle.std.proofs.Common.{◌≡◌, ◌∙◌, ◌≤◌, ◌<◌, ◌+◌, ◌-◌, ◌*◌, ℕ, zero, suc, Bool, true, false, cond, List, [], ◌∷◌, ◌++◌, length, drop, refl, sym, ap, arith}
 use Rattle.std.specs.Prelude.{Option, Some, None, bytes_eq, fold, is_some, nat_lt}
 use Rattle.std.specs.List.{AllByRecursion}
 use Rattle.std.proofs.lemmas.Bool.{false≢true, ltb-false, ltb-true}
@@ -11,11 +11,13 @@ use Rattle.map_model.proofs.Between.{whole}
 use Rattle.map_model.proofs.Maps.{by_order}
 use Rattle.map_model.specs.Slices.{between, count, first_pair, is_before, is_between, slice}
 use Rattle.map_model.specs.SortedMap.{Bytes, Map, del, in_place, put}
-use Rattle.state_model.proofs.Sayings.{backwards, lists_of, oldest_first-backwards}
+use Rattle.state_model.proofs.WithoutRanges.{map_alone}
 use Rattle.state_model.proofs.SoundLogs.{few_filled}
 use Rattle.state_model.specs.Sound.{IsSound, IsSoundTable}
 use Rattle.state_model.specs.State.{State}
-use Rattle.state_model.specs.View.{entries_of, oldest_first, state_map}
+use Rattle.state_model.specs.View.{state_map}
+use Rattle.state_model.specs.WithoutRanges.{HasOnlyEntries, table_entries}
+use Rattle.store_core.proofs.Recorded.{entries_in}
 use Rattle.store_core.proofs.ScanStates.{crossed_key}
 use Rattle.store_core.specs.Answers.{IsTried}
 use Rattle.store_core.specs.Counts.{IsCountRefusal}
@@ -56,21 +58,21 @@ between_few (pair ∷ more) low high = elim (is_between low high pair.0) as (λ 
   | false ↦ omega (arith, between_few more low high)
 ]
 
-tables_few : (tables : List Table) → AllByRecursion IsSoundTable tables → length (backwards (lists_of tables)) ≤ 4294967296 * length tables
+tables_few : (tables : List Table) → AllByRecursion IsSoundTable tables → length (table_entries tables) ≤ 4294967296 * length tables
 tables_few [] sound = omega arith
-tables_few (t ∷ more) sound = omega (arith, length-append (backwards (lists_of more)) t.entries, tables_few more sound.1, sound.0.entries.sound.few)
+tables_few (t ∷ more) sound = omega (arith, length-append (table_entries more) t.entries, tables_few more sound.1, sound.0.entries.sound.few)
 
-pub count_few : (filter_bytes : FilterBytes) (s : State) (low : Bytes) (high : Option Bytes) → IsSound filter_bytes s → count (state_map s) low high ≤ 18446744073709551615
-count_few filter_bytes s low high sound =
+pub count_few : (filter_bytes : FilterBytes) (s : State) (low : Bytes) (high : Option Bytes) → IsSound filter_bytes s → HasOnlyEntries s (entries_in s) → count (state_map s) low high ≤ 18446744073709551615
+count_few filter_bytes s low high sound only =
     omega (
       arith,
       between_few (state_map s) low high,
-      all_few [] (entries_of s),
-      length-append (oldest_first s.tables) s.log,
-      ap (λ (l : List Entry). length l) (oldest_first-backwards s.tables),
+      ap (λ (m : Map). length m) (map_alone s (entries_in s) only),
+      all_few [] (table_entries s.tables ++ entries_in s),
+      length-append (table_entries s.tables) (entries_in s),
       tables_few s.tables sound.tables,
       sound.few,
-      few_filled s.log,
+      few_filled (entries_in s),
       sound.log_fits,
     )
 
@@ -109,10 +111,10 @@ below_most left n is few more = by_test (nat_lt n 18446744073709551615) refl
         let most : 18446744073709551615 - n ≡ 0 = omega (arith, few, ltb-false n 18446744073709551615 not_less) in
         absurd (more (is ∙ ap Some most))
 
-pub counted_all : (filter_bytes : FilterBytes) (s : State) (low : Bytes) (high : Option Bytes) (n : ℕ) → IsSound filter_bytes s → n ≤ length (slice (state_map s) low high 18446744073709551615)
+pub counted_all : (filter_bytes : FilterBytes) (s : State) (low : Bytes) (high : Option Bytes) (n : ℕ) → IsSound filter_bytes s → HasOnlyEntries s (entries_in s) → n ≤ length (slice (state_map s) low high 18446744073709551615)
     → length (slice (state_map s) low high 18446744073709551615) ≤ n → n ≡ count (state_map s) low high
-counted_all filter_bytes s low high n sound few all =
-    omega (arith, few, all, ap (λ (m : Map). length m) (whole (state_map s) low high 18446744073709551615 (count_few filter_bytes s low high sound)))
+counted_all filter_bytes s low high n sound only few all =
+    omega (arith, few, all, ap (λ (m : Map). length m) (whole (state_map s) low high 18446744073709551615 (count_few filter_bytes s low high sound only)))
 
 -- ---- refusals
 

@@ -71,7 +71,7 @@ next_steps tables here image first mid new same on paced passes =
     let there = subst (λ (i : Image). IsPaced tables i mid new) same paced in
     steps_then tables image first mid new on (record {
       on = record { floor = mid.floor; rises = rises_same mid.floor; onward = rises_on new.now mid.floor new.floor passes; same = there.same };
-      clear = heads_clear mid.floor tables image new.walks there.ready;
+      clear = heads_clear mid.floor tables image new.walks there.caught_up;
     })
 
 -- a step of a scan after others, as it is said of the device and of the tables at that time

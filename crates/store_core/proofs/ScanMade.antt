@@ -17,7 +17,7 @@ use Rattle.merge_rows.specs.Merges.{Merge, merge_from, numbered, rows_left, walk
 use Rattle.merge_rows.specs.RowLaws.{MergedLaws}
 use Rattle.merge_rows.specs.Rows.{merged_rows}
 use Rattle.merge_rows.specs.Steps.{AreNumbersIn, AreWalksIn, stands}
-use Rattle.state_model.proofs.Sayings.{newest_entries_rise}
+use Rattle.state_model.proofs.Sayings.{source_sound}
 use Rattle.state_model.proofs.SoundLogs.{logged_entries, newest_all}
 use Rattle.state_model.specs.Bounds.{is_passed, seek_bound}
 use Rattle.state_model.specs.State.{State}
@@ -31,6 +31,7 @@ use Rattle.store_core.specs.Represents.{ReadsAs}
 use Rattle.table_file.specs.Laws.{StandingBlocks, StandingWalks}
 use Rattle.table_file.specs.Opened.{Opened}
 use Rattle.table_model.specs.Tables.{FilterBytes}
+use Rattle.store_core.proofs.Recorded.{entries_in, shown_only}
 
 -- ---- what a merge is made of
 
@@ -74,14 +75,15 @@ module _ (laws : MergedLaws) (standing : StandingMerges) (blocks : StandingBlock
   whole : MergesAreWhole (numbers_admitting low high store.tables) store.tables (Some store.memory.entries) low false image opened
   whole = standing spelling store.tables image (numbers_admitting low high store.tables) opened (Some store.memory.entries) low false
       (opened_stand spelling image low high store.tables s.tables seen.under.tables)
-      (subst KeysRise (sym seen.memory) (newest_entries_rise s.log))
+      (subst KeysRise (sym seen.memory) (source_sound s.log).rises)
 
   made_pairs : pairs_up_to high (rows_left merge store.tables image) ≡ between (state_map s) low high
   made_pairs =
       ap (pairs_up_to high) (whole.rows
       ∙ ap (λ (entries : List Entry). entries_from (merged_rows (entries ∷ map (λ (b : List (List Entry)). joined b) opened)) low) seen.memory
       ∙ ap (λ (lists : List (List Entry)). entries_from (merged_rows (memory s ∷ lists)) low) (blocks_joined spelling image low high store.tables s.tables seen.under.tables))
-      ∙ state_pairs laws spelling filter_bytes s image low low_bytes high high_bytes seen.sound store.tables seen.under.tables
+      ∙ state_pairs laws spelling filter_bytes s image low low_bytes high high_bytes seen.sound (entries_in s) (shown_only spelling store.manifest store.tables store.job s image seen.under) store.tables
+      seen.under.tables
 
   pub made_shows : (scan : ScanWalk) (most : Option ℕ) → scan ≡ made_scan low high store.tables store.memory.entries most → StillComes spelling scan (at_most most (between (state_map s) low high)) image
   made_shows scan most is = subst (λ (w : ScanWalk). StillComes spelling w (at_most most (between (state_map s) low high)) image) (sym is) (record {

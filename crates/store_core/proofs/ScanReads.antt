@@ -60,7 +60,7 @@ counted_fewer below old new rises [] = omega arith
 counted_fewer below old new rises (e ∷ more) =
     omega (arith, counted_fewer below old new rises more, counted_more below old e more, counted_more below new e more, one_fewer_of (clears new e.key) (clears old e.key) (below e.key) (rises e.key))
 
--- ---- a walk of which nothing is left wants nothing
+-- ---- a walk of which nothing is left needs nothing
 
 none_left : (walk : CursorWalk) (blocks : List (List Entry)) (rows : ℕ) → rows ≡ length blocks → BeginsWell walk blocks → to_come walk blocks ≡ [] → is_due walk rows ≡ false
 none_left walk blocks rows many begins none = by_due (is_due walk rows) refl
@@ -157,7 +157,7 @@ module _ (below : Bytes → Bool) (tables : List Opened) (image : Image) where
           sum_by-cons (λ (l : List Entry). count_by (λ (e : Entry). below e.key) l) (left_above old tables image w) (map (left_above old tables image) walks),
         )
 
-  -- what is owed is what the next row wants, and the entries
+  -- what is owed is what the next row needs, and the entries
   owed_parts : (floor : KeyFloor) (walks : List TableWalk)
       → sum_by (owed below floor tables image) walks ≡ wanted_by floor tables walks + sum_by (λ (l : List Entry). count_by (λ (e : Entry). below e.key) l) (map (left_above floor tables image) walks)
   owed_parts floor [] = refl
@@ -179,6 +179,6 @@ module _ (below : Bytes → Bool) (tables : List Opened) (image : Image) where
       → below row.key ≡ true → wanted old tables + all_owed below new tables image ≤ all_owed below old tables image
   paid old new row paced sound now clear floor under =
       let from = subst (λ (o : Option Entry). IfSome o (λ (r : Entry). AllByRecursion (λ (w : TableWalk). IsHeadFrom r.key w.walk.now) new.walks)) now paced.least in
-      let less = owed_walks old.floor new.floor row.key clear floor under new.walks paced.ready from sound.walks in
+      let less = owed_walks old.floor new.floor row.key clear floor under new.walks paced.caught_up from sound.walks in
       let same = ap (sum_by (λ (l : List Entry). count_by (λ (e : Entry). below e.key) l)) paced.same in
       omega (arith, less, same, owed_parts old.floor old.walks)

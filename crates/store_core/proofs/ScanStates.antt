@@ -14,17 +14,18 @@ use Rattle.entry_model.specs.Newest.{entries_from, lookup}
 use Rattle.filter_api.specs.Spellings.{Spelling}
 use Rattle.filter_model.specs.Answers.{ranged}
 use Rattle.map_model.specs.Slices.{between, is_before, is_between}
-use Rattle.map_model.specs.SortedMap.{Bytes, get}
+use Rattle.map_model.specs.SortedMap.{Bytes, get, Rises}
 use Rattle.merge_rows.specs.Laws.{NumberedStand}
 use Rattle.merge_rows.specs.Merges.{numbered}
 use Rattle.merge_rows.specs.RowLaws.{MergedLaws}
 use Rattle.merge_rows.specs.Rows.{merged_rows}
-use Rattle.state_model.proofs.Sayings.{AllRise, lists_of, newest_entries_rise, newest_of_rising}
+use Rattle.state_model.proofs.Sayings.{AllRise, lists_of, newest_of_rising, source_sound}
 use Rattle.state_model.proofs.Searches.{range_admitted}
 use Rattle.state_model.proofs.Views.{tables_rise, view_says}
 use Rattle.state_model.specs.Sound.{IsSound, IsSoundTable}
 use Rattle.state_model.specs.State.{State}
-use Rattle.state_model.specs.View.{entries_of, first_found, memory, state_map}
+use Rattle.state_model.specs.View.{memory, state_map}
+use Rattle.state_model.specs.WithoutRanges.{HasOnlyEntries, first_found, table_entries}
 use Rattle.store_search.proofs.Founds.{held_entries}
 use Rattle.store_core.proofs.ScanPairs.{from_then_after, pairs_between}
 use Rattle.store_core.proofs.Tellings.{ranges_same}
@@ -33,6 +34,7 @@ use Rattle.store_core.specs.Telling.{IsHighOfBytes}
 use Rattle.store_search.specs.TablesAgree.{TableAgrees, TablesAgree}
 use Rattle.table_file.specs.Opened.{Opened}
 use Rattle.table_model.specs.Tables.{FilterBytes, Table}
+use Rattle.state_model.proofs.WithoutRanges.{map_alone, view_alone}
 
 -- the entries of the tables that are opened
 abbrev pub entries_opened : Bytes → Option Bytes → List Opened → List Table → List (List Entry)
@@ -95,7 +97,7 @@ module _ (spelling : Spelling) (image : Image) (low : Bytes) where
         by_test rest false is =
             rest ∙ ap (λ (o : Option (Option Bytes)). option_or o (first_found (lists_of tables) key)) (sym (denied high high_bytes key inside o t held.0 sound.0 is (lookup t.entries key) refl))
 
-  -- ---- their entries, and where they stand
+  -- ---- their entries, and where they are
 
   pub opened_rise : (high : Option Bytes) (opened : List Opened) (tables : List Table) → AllByRecursion IsSoundTable tables → AllRise (entries_opened low high opened tables)
   opened_rise high [] tables sound = tt
@@ -164,19 +166,21 @@ merged_say laws (entries ∷ older) key rise =
     ∙ ap (option_or (lookup entries key)) (merged_say laws older key rise.1)
 
 module _ (laws : MergedLaws) (spelling : Spelling) (filter_bytes : FilterBytes) (s : State) (image : Image) (low : Bytes) (low_bytes : IsBytes low) (high : Option Bytes) (high_bytes : IsHighOfBytes high)
-    (sound : IsSound filter_bytes s) (opened : List Opened) (held : TablesAgree spelling opened s.tables image) where
+    (sound : IsSound filter_bytes s) (entries : List Entry) (only : HasOnlyEntries s entries) (opened : List Opened) (held : TablesAgree spelling opened s.tables image) where
   abbrev pub all_sources : List (List Entry)
   all_sources = memory s ∷ entries_opened low high opened s.tables
 
   all_rise : AllRise all_sources
-  all_rise = (newest_entries_rise s.log, opened_rise spelling image low high opened s.tables sound.tables)
+  all_rise = ((source_sound s.log).rises, opened_rise spelling image low high opened s.tables sound.tables)
 
   rows_say : (key : Bytes) → is_between low high key ≡ true → live (lookup (merged_rows all_sources) key) ≡ get (state_map s) key
   rows_say key inside =
       ap live (merged_say laws all_sources key all_rise
-      ∙ ap (option_or (lookup (memory s) key)) (opened_say spelling image low low_bytes high high_bytes key inside opened s.tables held sound.tables))
+      ∙ ap (option_or (lookup (memory s) key)) (opened_say spelling image low low_bytes high high_bytes key inside opened s.tables held sound.tables)
+      ∙ sym (view_alone s entries key only))
       ∙ sym (view_says filter_bytes s key sound)
 
   -- the pairs of the rows between the bounds are those of the state's map
   pub state_pairs : pairs_up_to high (entries_from (merged_rows all_sources) low) ≡ between (state_map s) low high
-  state_pairs = pairs_between (merged_rows all_sources) (state_map s) low high (laws.rises all_sources) (entries_rise [] (entries_of s) tt) rows_say
+  state_pairs = pairs_between (merged_rows all_sources) (state_map s) low high (laws.rises all_sources)
+      (subst Rises (sym (map_alone s entries only)) (entries_rise [] (table_entries s.tables ++ entries) tt)) rows_say

@@ -38,7 +38,7 @@ at_pair high row value rows later is up some =
 pub at_end : (high : Option Bytes) (row : Entry) (rows later : List Entry) → rows ≡ row ∷ later → is_up_to high row.key ≡ false → pairs_up_to high rows ≡ []
 at_end high row rows later is above = ap (pairs_up_to high) is ∙ ap (λ (b : Bool). cond b (before_pairs row.key row.value (pairs_up_to high later)) []) above
 
--- before the pairs behind a row comes its key
+-- before the pairs after a row comes its key
 before_first : (key : Bytes) (pairs : Map) → ArePairsAbove key pairs → is_passed (first_pair pairs) key ≡ true
 before_first key [] above = refl
 before_first key (pair ∷ later) above = ap is_lt above.0
@@ -48,7 +48,7 @@ rows_rise laws m tables image keeps = subst KeysRise (sym (ap (λ (b : Bool). ro
 
 -- ---- so far on the way
 
--- No pair is lost, what was read is owed no more, and so many blocks fewer are left.
+-- No pair is lost, what was read is owed no more, and a given number of blocks fewer are left.
 pub record IsUnderWay (tells : Bool) (image : Image) (tables : List Opened) (high : Option Bytes) (old now : Merge) (before after : ℕ) : Type 0 where
   pub kept : SourcesStay tells tables image old now
   pub pairs : IsTrue tells → IsSoundMerge old tables image → pairs_up_to high (rows_left now tables image) ≡ pairs_up_to high (rows_left old tables image)
@@ -82,7 +82,7 @@ module _ (tells : Bool) (image : Image) (tables : List Opened) (high : Option By
     pub still_pairs : IsFaultStep tells tables image mid next → IsTrue tells → IsSoundMerge old tables image → pairs_of next ≡ pairs_of old
     still_pairs fault so sound = ap (pairs_up_to high) (fault.rows so (way.kept.sound so sound)) ∙ way.pairs so sound
 
-    -- a step that reads no more than so many blocks fewer are left does so from the first one on
+    -- a step that reads no more than a given number of blocks fewer are left does so from the first one on
     pub all_spent : (after : ℕ) → (IsTrue tells → IsSoundMerge mid tables image → after + blocks_left tables next.walks ≤ reads + blocks_left tables mid.walks) → IsTrue tells → IsSoundMerge old tables image
         → after + blocks_left tables next.walks ≤ before + blocks_left tables old.walks
     all_spent after spends so sound = omega (arith, spends so (way.kept.sound so sound), way.spent so sound)

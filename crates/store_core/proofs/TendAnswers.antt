@@ -6,7 +6,7 @@ use Rattle.disk_trait.specs.Image.{Image}
 use Rattle.disk_trait.specs.World.{Meanwhile, Rose, World}
 use Rattle.disk_trait.specs.declared.fault.DiskFault.{DiskFault}
 use Rattle.disk_trait.proofs.Moments.{meanwhile_then, started as begun_at}
-use Rattle.entry_model.specs.Entries.{Entry}
+use Rattle.range_model.specs.Sources.{Source}
 use Rattle.extent_model.specs.Extents.{Extent}
 use Rattle.extent_model.specs.Gaps.{first_gap, largest_gap}
 use Rattle.filter_api.specs.Spellings.{Spelling}
@@ -27,9 +27,9 @@ use Rattle.state_model.specs.Taken.{taken}
 use Rattle.state_model.specs.Tends as model
 use Rattle.state_model.specs.Tends.{IsDone, MayWrite, Progresses, Runs, Tend, installed, next_placed, outstanding, with_job}
 use Rattle.state_model.specs.View.{state_map}
-use Rattle.table_model.specs.Tables.{FilterBytes, Table, table_of, table_pages}
+use Rattle.table_model.specs.Tables.{FilterBytes, Table, source_pages, table_from}
 use Rattle.store_core.specs.Answers.{told}
-use Rattle.store_core.specs.Installing.{Installs, IsInstallRefusal}
+use Rattle.store_core.specs.Install.{Installs, IsInstallRefusal}
 use Rattle.store_core.specs.StoreValue.{IsConsistent, StoreValue, rows_of}
 use Rattle.store_core.specs.Tending.{IsNext, SlicesJob, Tends, answer_to, told_slice}
 use Rattle.store_core.specs.Represents.{Represents}
@@ -62,20 +62,20 @@ tied_none spelling bytes store s w stopped none tied =
 -- ---- where something may be written
 
 module _ (bytes : FilterBytes) (settings : Settings) (pages : ℕ) (extents : List Extent) (level : ℕ) where
-  abbrev PlacesSo : List (List Entry) → Result (List Table) NoRoom
+  abbrev PlacesSo : List Source → Result (List Table) NoRoom
   PlacesSo outputs = placed bytes settings pages extents level outputs
 
   -- where the first of more has a place, it has one by itself
-  first_placed : (output : List Entry) (more : List (List Entry)) (page : Option ℕ) → first_gap pages extents (table_pages bytes settings output) ≡ page → (made : List Table)
+  first_placed : (output : Source) (more : List Source) (page : Option ℕ) → first_gap pages extents (source_pages bytes settings output) ≡ page → (made : List Table)
       → PlacesSo (output ∷ more) ≡ Ok made → IsOk (PlacesSo (output ∷ []))
   first_placed output more None none made is =
-      absurd (let never = sym is ∙ ap (λ (o : Option ℕ). at_page o (λ p. before (table_of bytes settings level p output) (placed bytes settings pages ((p, table_pages bytes settings output) ∷ extents) level more))
-      (record { need = table_pages bytes settings output; gap = largest_gap pages extents })) none in cc)
+      absurd (let never = sym is ∙ ap (λ (o : Option ℕ). at_page o (λ p. before (table_from bytes settings level p output) (placed bytes settings pages ((p, source_pages bytes settings output) ∷ extents) level more))
+      (record { need = source_pages bytes settings output; gap = largest_gap pages extents })) none in cc)
   first_placed output more (Some page) some made is =
-      subst (λ (r : Result (List Table) NoRoom). IsOk r) (sym (ap (λ (o : Option ℕ). at_page o (λ p. Ok (table_of bytes settings level p output ∷ []))
-      (record { need = table_pages bytes settings output; gap = largest_gap pages extents })) some)) refl
+      subst (λ (r : Result (List Table) NoRoom). IsOk r) (sym (ap (λ (o : Option ℕ). at_page o (λ p. Ok (table_from bytes settings level p output ∷ []))
+      (record { need = source_pages bytes settings output; gap = largest_gap pages extents })) some)) refl
 
-  next_placed_of : (outputs : List (List Entry)) (n : ℕ) (made : List Table) → PlacesSo (take n outputs) ≡ Ok made → (1 ≤ n) ⊎ (outputs ≡ []) → IsOk (PlacesSo (take 1 outputs))
+  next_placed_of : (outputs : List Source) (n : ℕ) (made : List Table) → PlacesSo (take n outputs) ≡ Ok made → (1 ≤ n) ⊎ (outputs ≡ []) → IsOk (PlacesSo (take 1 outputs))
   next_placed_of [] n made is some = refl
   next_placed_of (output ∷ more) zero made is (inl some) = absurd (omega (arith, some))
   next_placed_of (output ∷ more) zero made is (inr none) = absurd cc
@@ -93,7 +93,7 @@ module _ (bytes : FilterBytes) (s : State) (job later : Job) (goes : Progresses 
 
   none_left : goes.more ≡ 0 → outstanding s.tables job ≡ []
   none_left none =
-      ap₂ (λ (n : ℕ) (outputs : List (List Entry)). drop n outputs) (ap length (sym (same_written none)))
+      ap₂ (λ (n : ℕ) (outputs : List Source). drop n outputs) (ap length (sym (same_written none)))
       (ap₂ (λ (is : List Table) (n : ℕ). planned s.tables (record { inputs = is; output = n })) (sym goes.inputs) (sym goes.output))
       ∙ done.all_written
 

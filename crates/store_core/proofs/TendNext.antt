@@ -40,7 +40,7 @@ use Rattle.store_core.proofs.Runs.{follows_as, none_runs}
 pub with_same : (s : State) (job : Job) → s.job ≡ Some job → s ≡ with_job s job
 with_same s job here = ap (λ (j : Option Job). record s { job = j }) here
 
--- an image is ready for another job, where what that has written stands
+-- an image is ready for another job, where what that has written is
 pub ready_with : (spelling : Spelling) (slot other : ℕ) (said : Bool) (v : Version) (s : State) (job : Job) (image : Image)
     → AllByRecursion (StandsInExtent spelling image) (job.written ++ s.kept) → IsReady spelling slot other said v s image → IsReady spelling slot other said v (with_job s job) image
 ready_with spelling slot other said v s job image stand ready = record { current = ready.current; gate = ready.gate; named = ready.named; unnamed = stand }
@@ -112,7 +112,7 @@ pub not_chosen : (tables : List Table) (p : Option Plan) → IsPlanOf tables Non
 not_chosen tables None is = refl
 not_chosen tables (Some plan) is = absurd is
 
--- tables that stand agree with those of the state
+-- tables on the device agree with those of the state
 pub all_agree : StandingAgrees → (spelling : Spelling) (image : Image) (opened : List Opened) (tables : List Table) → TablesAgree spelling opened tables image → Agree opened tables
 all_agree law spelling image [] [] held = tt
 all_agree law spelling image [] (t ∷ tables) held = absurd held

@@ -13,7 +13,7 @@ use Rattle.manifest_model.specs.Version.{Version}
 use Rattle.table_file.specs.Opened.{Opened}
 use Rattle.table_file.specs.declared.fault.TableFault.TheVariants as table
 use Rattle.store_core.specs.Answers.{is_write}
-use Rattle.store_core.specs.Installing.{IsInstallRefusal}
+use Rattle.store_core.specs.Install.{IsInstallRefusal}
 use Rattle.store_core.specs.StoreValue.{StoreValue}
 use Rattle.store_core.specs.Scans.{IsScanShown}
 use Rattle.store_core.specs.Tending.{IsTended, IsTendRefusal, SomeMoves, answer_to}

@@ -48,7 +48,7 @@ use Rattle.store_core.proofs.TendNext.{ready_with, with_same}
 pub all_in_order : (P : Extent → Type 0) (xs ys : List Extent) → IsPermutation xs ys → AllByRecursion P xs → AllByRecursion P ys
 all_in_order P xs ys same all = recursion_from_All P ys (All-permutation P xs ys same (All-from_recursion P xs all))
 
--- open tables that stand on an image are tables that stand in their extents
+-- open tables that are on an image are tables that are in their extents
 pub held_stand : (spelling : Spelling) (image : Image) (opened : List Opened) (tables : List Table) → TablesAgree spelling opened tables image
     → AllByRecursion (StandsInExtent spelling image) tables
 held_stand spelling image [] [] held = tt

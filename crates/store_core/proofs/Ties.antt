@@ -1,6 +1,7 @@
 -- What keeps a store, its device and its state one.
 use Rattle.std.proofs.Common.{◌≡◌, ◌⊎◌, inl, inr, ◌<◌, ◌≤◌, ◌+◌, ◌-◌, ◌*◌, ℕ, Bool, true, false, cond, List, [], ◌∷◌, ◌++◌, length, refl, sym, ap, subst, ◌∙◌, arith}
-use Rattle.std.specs.Prelude.{Option, Result, Ok, Err, nat_le, nat_lt}
+use Rattle.std.specs.Prelude.{Option, Result, Ok, Err, map, nat_le, nat_lt}
+use Rattle.std.proofs.lemmas.List.{map-append}
 use Rattle.disk_trait.proofs.Calls.{moves_wider}
 use Rattle.std.proofs.lemmas.Bool.{le-leb}
 use Rattle.disk_trait.specs.Image.{Image, Torn}
@@ -9,7 +10,7 @@ use Rattle.disk_trait.specs.World.{Leads, Meanwhile, Now, ReadMoves, World, Writ
 use Rattle.disk_trait.proofs.Calls.{reads_keep}
 use Rattle.disk_trait.proofs.Moments.{framed, framed_now}
 use Rattle.entry_model.specs.Entries.{Entry, IsLogged, bytes_of, filled, gap, need}
-use Rattle.entry_model.specs.Newest.{newest_entries}
+use Rattle.entry_model.specs.Newest.{with_entry}
 use Rattle.filter_api.specs.Spellings.{Spelling}
 use Rattle.image_model.specs.Stands.{StandsForMap}
 use Rattle.level_merge.specs.FollowLaws.{OtherImageIsFollowed}
@@ -19,11 +20,13 @@ use Rattle.log_model.proofs.Logs.{filled_more}
 use Rattle.manifest.specs.Manifest.{Manifest}
 use Rattle.manifest_model.specs.Laws.{IsVersion}
 use Rattle.manifest_model.specs.Version.{Version, log_page_of}
+use Rattle.range_model.specs.Sources.{Change, Sets}
 use Rattle.state_model.proofs.SoundChanges.{written_sound}
 use Rattle.state_model.specs.Changes.{flushed, is_long, logged, logged_then, written}
+use Rattle.state_model.specs.Logs.{filled_by, gap_after}
 use Rattle.state_model.specs.Sound.{IsSound}
 use Rattle.state_model.specs.State.{State}
-use Rattle.state_model.specs.View.{state_map}
+use Rattle.state_model.specs.View.{memory, state_map}
 use Rattle.table_file.specs.Opened.{Opened}
 use Rattle.table_model.specs.Tables.{FilterBytes}
 use Rattle.store_core.specs.Answers.{MovesTo}
@@ -32,6 +35,7 @@ use Rattle.store_core.specs.StoreValue.{IsConsistent, StoreValue}
 use Rattle.store_core.specs.Represents.{Represents, RepresentsOn}
 use Rattle.store_core.specs.declared.error.StoreError.TheVariants as error
 use Rattle.store_core.proofs.Frames.{under_log, under_logged, under_stands}
+use Rattle.store_core.proofs.Recorded.{entries_in, one_more_made, one_recorded, shown_only}
 
 module _ (spelling : Spelling) (filter_bytes : FilterBytes) (store : StoreValue) (s : State) (a b : World) where
   -- reads change nothing
@@ -61,22 +65,23 @@ long_of n long = grind arith
 pub short_of_logged : (e : Entry) → IsLogged e → is_long e ≡ false
 short_of_logged e is = not_long (length (bytes_of e.value)) is.short
 
--- and is logged, behind a flush or without
+-- and is logged, after a flush or without
 pub written_short : (filter_bytes : FilterBytes) (s : State) (e : Entry) → is_long e ≡ false
-    → written filter_bytes s e ≡ cond (nat_le (need e) (gap s.log)) (Ok (logged s e)) (logged_then e (flushed filter_bytes s))
+    → written filter_bytes s (Sets e) ≡ cond (nat_le (need e) (gap_after s.log)) (Ok (logged s (Sets e))) (logged_then (Sets e) (flushed filter_bytes s))
 written_short filter_bytes s e short =
-    ap (λ (b : Bool). cond b (flushed filter_bytes (logged s e)) (cond (nat_le (need e) (gap s.log)) (Ok (logged s e)) (logged_then e (flushed filter_bytes s)))) short
+    ap (λ (b : Bool). cond b (flushed filter_bytes (logged s (Sets e))) (cond (nat_le (need e) (gap_after s.log)) (Ok (logged s (Sets e))) (logged_then (Sets e) (flushed filter_bytes s)))) short
 
 -- what it does not take is flushed over the memory entries
-pub written_long : (filter_bytes : FilterBytes) (s : State) (e : Entry) → is_long e ≡ true → written filter_bytes s e ≡ flushed filter_bytes (logged s e)
+pub written_long : (filter_bytes : FilterBytes) (s : State) (e : Entry) → is_long e ≡ true → written filter_bytes s (Sets e) ≡ flushed filter_bytes (logged s (Sets e))
 written_long filter_bytes s e long =
-    ap (λ (b : Bool). cond b (flushed filter_bytes (logged s e)) (cond (nat_le (need e) (gap s.log)) (Ok (logged s e)) (logged_then e (flushed filter_bytes s)))) long
+    ap (λ (b : Bool). cond b (flushed filter_bytes (logged s (Sets e))) (cond (nat_le (need e) (gap_after s.log)) (Ok (logged s (Sets e))) (logged_then (Sets e) (flushed filter_bytes s)))) long
 
-pub written_fits : (filter_bytes : FilterBytes) (s : State) (e : Entry) → is_long e ≡ false → nat_le (need e) (gap s.log) ≡ true → written filter_bytes s e ≡ Ok (logged s e)
-written_fits filter_bytes s e short fits = written_short filter_bytes s e short ∙ ap (λ (b : Bool). cond b (Ok (logged s e)) (logged_then e (flushed filter_bytes s))) fits
+pub written_fits : (filter_bytes : FilterBytes) (s : State) (e : Entry) → is_long e ≡ false → nat_le (need e) (gap_after s.log) ≡ true → written filter_bytes s (Sets e) ≡ Ok (logged s (Sets e))
+written_fits filter_bytes s e short fits = written_short filter_bytes s e short ∙ ap (λ (b : Bool). cond b (Ok (logged s (Sets e))) (logged_then (Sets e) (flushed filter_bytes s))) fits
 
-pub logged_sound : (filter_bytes : FilterBytes) (s : State) (e : Entry) → IsSound filter_bytes s → IsLogged e → filled s.log + need e ≤ 262144 → IsSound filter_bytes (logged s e)
-logged_sound filter_bytes s e sound is fits = written_sound filter_bytes s (logged s e) e sound is.sound (written_fits filter_bytes s e (short_of_logged e is) (le-leb (need e) (gap s.log) (omega (arith, fits, gap_is s.log))))
+pub logged_sound : (filter_bytes : FilterBytes) (s : State) (e : Entry) → IsSound filter_bytes s → IsLogged e → filled_by s.log + need e ≤ 262144 → IsSound filter_bytes (logged s (Sets e))
+logged_sound filter_bytes s e sound is fits =
+    written_sound filter_bytes s (logged s (Sets e)) (Sets e) sound is.sound (written_fits filter_bytes s e (short_of_logged e is) (le-leb (need e) (gap_after s.log) (omega (arith, fits, gap_is (entries_in s)))))
 
 pub filled_logged : (entries : List Entry) (e : Entry) (before after : ℕ) → before ≡ filled entries → after + 1 ≡ before + need e → after ≡ filled (entries ++ e ∷ [])
 filled_logged entries e before after is more = omega (arith, is, more, filled_more entries e)
@@ -89,45 +94,57 @@ module _ (law : OtherImageIsFollowed) (spelling : Spelling) (filter_bytes : Filt
   abbrev Under : State → Image → Type 0
   Under t = RepresentsOn spelling store.manifest store.tables store.job t
 
+  -- its entries, and those with one more
+  abbrev es : List Entry
+  es = entries_in s
+
   small : store.log.area ≤ 1
   small = elim whole.version.log_page [ inl first ↦ omega (arith, first, whole.area) | inr second ↦ omega (arith, second, whole.area) ]
 
-  logs_now : Now (LogIs area s.log) a
+  logs_now : Now (LogIs area es) a
   logs_now image left = under_log spelling store.manifest store.tables store.job whole.slot whole.rows s area image whole.area (tied.images image left)
 
-  at_once : (log : List Entry) (was image : Image) → Under s was → Torn (start_of store.log.area + store.log.filled) (need e) was image → LogIs area log image → Under (record s { log = log }) image
-  at_once log was image under torn spelled =
-      under_logged spelling store.manifest store.tables store.job whole.slot whole.rows law s log area _ _ was image tied.sound.on_device whole.area (omega arith) (omega (arith, fits)) small torn spelled under
+  log_of : (image : Image) → Under s image → s.log ≡ map Sets es
+  log_of image under = (shown_only spelling store.manifest store.tables store.job s image under).log
 
-  to_maps : (was image : Image) → Under s was → Torn (start_of store.log.area + store.log.filled) (need e) was image → WithOrWithout area s.log e image
-      → StandsForMap spelling (state_map s) image ⊎ StandsForMap spelling (state_map (logged s e)) image
+  more_of : (image : Image) → Under s image → s.log ++ Sets e ∷ [] ≡ map Sets (es ++ e ∷ [])
+  more_of image under = ap (λ (log : List Change). log ++ Sets e ∷ []) (log_of image under) ∙ sym (map-append Sets es (e ∷ []))
+
+  at_once : (entries : List Entry) (log : List Change) (was image : Image) → Under s was → Torn (start_of store.log.area + store.log.filled) (need e) was image → LogIs area entries image → log ≡ map Sets entries
+      → Under (record s { log = log }) image
+  at_once entries log was image under torn spelled same =
+      subst (λ (log : List Change). Under (record s { log = log }) image) (sym same)
+      (under_logged spelling store.manifest store.tables store.job whole.slot whole.rows law s entries area _ _ was image tied.sound.on_device whole.area (omega arith) (omega (arith, fits)) small torn spelled under)
+
+  to_maps : (was image : Image) → Under s was → Torn (start_of store.log.area + store.log.filled) (need e) was image → WithOrWithout area es e image
+      → StandsForMap spelling (state_map s) image ⊎ StandsForMap spelling (state_map (logged s (Sets e))) image
   to_maps was image under torn (inl without) =
-      inl (under_stands spelling store.manifest store.tables store.job whole.slot whole.rows s image (at_once s.log was image under torn without))
+      inl (under_stands spelling store.manifest store.tables store.job whole.slot whole.rows s image (at_once es s.log was image under torn without (log_of was under)))
   to_maps was image under torn (inr with_it) =
-      inr (under_stands spelling store.manifest store.tables store.job whole.slot whole.rows (logged s e) image (at_once (s.log ++ e ∷ []) was image under torn with_it))
+      inr (under_stands spelling store.manifest store.tables store.job whole.slot whole.rows (logged s (Sets e)) image (at_once (es ++ e ∷ []) (s.log ++ Sets e ∷ []) was image under torn with_it (more_of was under)))
 
-  pub logged_meanwhile : {T E : Type 0} (result : Result T E) → Leads (LogIs store.log.area s.log) (WithOrWithout store.log.area s.log e) (LogIs store.log.area (s.log ++ e ∷ [])) result a b
-      → Meanwhile (λ image. StandsForMap spelling (state_map s) image ⊎ StandsForMap spelling (state_map (logged s e)) image) a b
-  logged_meanwhile result leads = framed (Under s) (WithOrWithout area s.log e) _ _ _ a b tied.images moves.time (leads.meanwhile logs_now) to_maps
+  pub logged_meanwhile : {T E : Type 0} (result : Result T E) → Leads (LogIs store.log.area es) (WithOrWithout store.log.area es e) (LogIs store.log.area (es ++ e ∷ [])) result a b
+      → Meanwhile (λ image. StandsForMap spelling (state_map s) image ⊎ StandsForMap spelling (state_map (logged s (Sets e))) image) a b
+  logged_meanwhile result leads = framed (Under s) (WithOrWithout area es e) _ _ _ a b tied.images moves.time (leads.meanwhile logs_now) to_maps
 
   -- at Ok the state has the entry
   pub logged_tied : {T E : Type 0} (x : T) (after : StoreValue) → after.manifest ≡ store.manifest → after.tables ≡ store.tables → after.job ≡ store.job → after.blocks ≡ store.blocks → after.log.filled + 1 ≡ store.log.filled + need e
-      → after.memory.entries ≡ newest_entries (s.log ++ e ∷ []) → IsLogged e
-      → Leads {T = T} {E = E} (LogIs store.log.area s.log) (WithOrWithout store.log.area s.log e) (LogIs store.log.area (s.log ++ e ∷ [])) (Ok x) a b
-      → Represents spelling filter_bytes after (logged s e) b
+      → after.memory.entries ≡ with_entry (memory s) e → IsLogged e
+      → Leads {T = T} {E = E} (LogIs store.log.area es) (WithOrWithout store.log.area es e) (LogIs store.log.area (es ++ e ∷ [])) (Ok x) a b
+      → Represents spelling filter_bytes after (logged s (Sets e)) b
   logged_tied x after same_manifest same_tables same_job same_blocks filled_now memory_now is leads =
-      let here : Now (Under (logged s e)) b =
-      framed_now (Under s) (LogIs area (s.log ++ e ∷ [])) (Under (logged s e)) _ _ a b tied.images moves.time (leads.after logs_now)
-      (λ was image under torn spelled. at_once (s.log ++ e ∷ []) was image under torn spelled) in
+      let here : Now (Under (logged s (Sets e))) b =
+      framed_now (Under s) (LogIs area (es ++ e ∷ [])) (Under (logged s (Sets e))) _ _ a b tied.images moves.time (leads.after logs_now)
+      (λ was image under torn spelled. at_once (es ++ e ∷ []) (s.log ++ Sets e ∷ []) was image under torn spelled (more_of was under)) in
       record {
         sound = logged_sound filter_bytes s e tied.sound is (omega (arith, fits, tied.log));
         none_kept = tied.none_kept;
         images = λ image left.
-            subst (λ (ts : List Opened). RepresentsOn spelling after.manifest ts after.job (logged s e) image) (sym same_tables)
-            (subst (λ (m : Manifest). RepresentsOn spelling m store.tables after.job (logged s e) image) (sym same_manifest)
-            (subst (λ (running : Option JobValue). RepresentsOn spelling store.manifest store.tables running (logged s e) image) (sym same_job) (here image left)));
-        log = filled_logged s.log e store.log.filled after.log.filled tied.log filled_now;
-        memory = memory_now;
+            subst (λ (ts : List Opened). RepresentsOn spelling after.manifest ts after.job (logged s (Sets e)) image) (sym same_tables)
+            (subst (λ (m : Manifest). RepresentsOn spelling m store.tables after.job (logged s (Sets e)) image) (sym same_manifest)
+            (subst (λ (running : Option JobValue). RepresentsOn spelling store.manifest store.tables running (logged s (Sets e)) image) (sym same_job) (here image left)));
+        log = filled_logged es e store.log.filled after.log.filled tied.log filled_now ∙ ap filled (sym (one_recorded s.log e));
+        memory = memory_now ∙ sym (one_more_made s.log e);
         blocks = subst (λ (b : Cached). CacheAgrees b after.tables s.tables) (sym same_blocks) (subst (λ (ts : List Opened). CacheAgrees store.blocks ts s.tables) (sym same_tables) tied.blocks);
       }
 
@@ -139,13 +156,13 @@ module _ (law : OtherImageIsFollowed) (spelling : Spelling) (filter_bytes : Filt
   own_moves = subst (λ (y : Entry). WriteMoves (start_of store.log.area + store.log.filled) (need y) a b) same moves
 
   abbrev Appends : {T E : Type 0} → Entry → Result T E → Type 0
-  Appends y result = Leads (LogIs store.log.area s.log) (WithOrWithout store.log.area s.log y) (LogIs store.log.area (s.log ++ y ∷ [])) result a b
+  Appends y result = Leads (LogIs store.log.area (entries_in s)) (WithOrWithout store.log.area (entries_in s) y) (LogIs store.log.area (entries_in s ++ y ∷ [])) result a b
 
   own_leads : {T E : Type 0} (result : Result T E) → Appends x result → Appends e result
   own_leads result leads = subst (λ (y : Entry). Appends y result) same leads
 
   pub append_done : {T E U : Type 0} (u : T) (y : U) (after : StoreValue) → Appends {T = T} {E = E} x (Ok u) → after.manifest ≡ store.manifest → after.tables ≡ store.tables → after.job ≡ store.job → after.blocks ≡ store.blocks
-      → after.log.filled + 1 ≡ store.log.filled + need x → after.memory.entries ≡ newest_entries (s.log ++ e ∷ []) → IsLogged e → MovesTo spelling filter_bytes s (logged s e) (Ok y) after a b
+      → after.log.filled + 1 ≡ store.log.filled + need x → after.memory.entries ≡ with_entry (memory s) e → IsLogged e → MovesTo spelling filter_bytes s (logged s (Sets e)) (Ok y) after a b
   append_done u y after leads same_manifest same_tables same_job same_blocks filled_now memory_now is =
       let own = own_leads (Ok u) leads in
       record {
@@ -156,7 +173,7 @@ module _ (law : OtherImageIsFollowed) (spelling : Spelling) (filter_bytes : Filt
       }
 
   pub append_fails : {T E U : Type 0} (f : E) (cause : DiskFault) (after : StoreValue) → Appends {T = T} {E = E} x (Err f) → after.stopped ≡ true
-      → MovesTo {T = U} spelling filter_bytes s (logged s e) (Err (error.Device cause)) after a b
+      → MovesTo {T = U} spelling filter_bytes s (logged s (Sets e)) (Err (error.Device cause)) after a b
   append_fails f cause after leads stopped =
       let own = own_leads (Err f) leads in
       record {

@@ -1,4 +1,4 @@
--- What is so of a store behind a flush, whatever its device holds.
+-- What is so of a store after a flush, whatever its device holds.
 use Rattle.std.proofs.Common.{◌≡◌, ◌≢◌, ◌∙◌, ◌<◌, ◌≤◌, ℕ, Bool, List, [], ◌∷◌, length, map, refl, sym, ap, subst, arith}
 use Rattle.std.specs.Prelude.{Option, Some, None}
 use Rattle.std.specs.List.{AllByRecursion}
@@ -18,13 +18,14 @@ use Rattle.manifest_model.specs.Laws.{IsVersion}
 use Rattle.manifest_model.specs.Rows.{extent_of}
 use Rattle.manifest_model.specs.Version.{Version, log_page_of}
 use Rattle.merge_rows.proofs.Begins.{walks_then}
-use Rattle.state_model.proofs.SoundLogs.{memory_is_table, newest_none}
+use Rattle.state_model.proofs.SoundLogs.{newest_none}
 use Rattle.table_file.specs.Opened.{Opened}
 use Rattle.store_search.specs.Caching.{AreNumbered, Cached}
 use Rattle.store_core.specs.Flushing.{installed_manifest, next_manifest}
 use Rattle.store_core.specs.StoreValue.{IsConsistent, IsOfEntries, StoreValue, rows_of}
 use Rattle.store_core.specs.Running.{MayRunIn, extents_with, outputs_in}
 use Rattle.store_search.proofs.Caches.{numbered_more}
+use Rattle.store_core.proofs.Recorded.{newest_table}
 
 -- a log with no record, and no entry
 none_of : (store : StoreValue) → store.log.filled ≡ 0 → store.memory.entries ≡ [] → IsOfEntries store.log store.memory.entries
@@ -105,7 +106,7 @@ some_of (e ∷ more) some = omega arith
 pub memory_table : (store : StoreValue) → IsConsistent store → store.memory.entries ≢ [] → IsTable store.memory.entries
 memory_table store whole some =
     let of = whole.entries in
-    subst IsTable (sym of.memory_is) (memory_is_table of.entries of.sound of.fits (subst (λ (es : List Entry). 1 ≤ length es) of.memory_is (some_of store.memory.entries some)))
+    subst IsTable (sym of.memory_is) (newest_table of.entries of.sound of.fits (subst (λ (es : List Entry). 1 ≤ length es) of.memory_is (some_of store.memory.entries some)))
 
 -- whether it is stopped is no part of it
 pub whole_stopped : (store : StoreValue) (stopped : Bool) (tables : List Opened) → tables ≡ store.tables → IsConsistent store → IsConsistent (record store { stopped = stopped; tables = tables })

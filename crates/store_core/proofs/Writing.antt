@@ -21,6 +21,8 @@ use Rattle.store_core.specs.Represents.{Represents}
 use Rattle.store_core.specs.declared.error.StoreError.{StoreError}
 use Rattle.store_core.specs.declared.error.StoreError.TheVariants as error
 use Rattle.store_core.proofs.Ties.{gap_is, written_fits, written_short}
+use Rattle.range_model.specs.Sources.{Sets}
+use Rattle.state_model.specs.Logs.{gap_after}
 
 -- ---- a write that failed in the device
 
@@ -36,7 +38,7 @@ is_failure (Err error.NotAStore) a b why = absurd why
 is_failure (Err error.AlreadyAStore) a b why = absurd why
 is_failure (Err (error.BadSettings field)) a b why = absurd why
 
--- it is no want of memory
+-- it is no lack of memory
 no_want : {T : Type 0} (r : Result T StoreError) (a b : World) (P : Type 0) → IfErr r (IsWriteFailure a b) → IfErr r (λ (why : StoreError). why ≡ error.Memory → P)
 no_want (Ok x) a b P why = tt
 no_want (Err e) a b P why = λ is. absurd (subst (IsWriteFailure a b) is why)
@@ -104,22 +106,22 @@ whole_with store m kept whole = record {
 
 module _ (spelling : Spelling) (bytes : FilterBytes) (s : State) (e : Entry) where
   -- the same of an entry that was prepared
-  pub wrote_as : {T : Type 0} (x : Entry) (result : Result T StoreError) (store : StoreValue) (a b : World) → e ≡ x → WroteEntry spelling bytes s (written bytes s e) result store a b
-      → WroteEntry spelling bytes s (written bytes s x) result store a b
-  wrote_as x result store a b same wrote = subst (λ (y : Entry). WroteEntry spelling bytes s (written bytes s y) result store a b) same wrote
+  pub wrote_as : {T : Type 0} (x : Entry) (result : Result T StoreError) (store : StoreValue) (a b : World) → e ≡ x → WroteEntry spelling bytes s (written bytes s (Sets e)) result store a b
+      → WroteEntry spelling bytes s (written bytes s (Sets x)) result store a b
+  wrote_as x result store a b same wrote = subst (λ (y : Entry). WroteEntry spelling bytes s (written bytes s (Sets y)) result store a b) same wrote
 
   abbrev Maps : State → State → Image → Type 0
   Maps from to image = StandsForMap spelling (state_map from) image ⊎ StandsForMap spelling (state_map to) image
 
   -- the record fits
-  pub wrote_logged : {T : Type 0} (result : Result T StoreError) (store : StoreValue) (a b : World) → is_long e ≡ false → nat_le (need e) (gap s.log) ≡ true → IfErr result (IsWriteFailure a b)
-      → MovesTo spelling bytes s (logged s e) result store a b → WroteEntry spelling bytes s (written bytes s e) result store a b
-  wrote_logged result store a b short fits why t = turns (logged s e) (written_fits bytes s e short fits) (is_failure result a b why) t
+  pub wrote_logged : {T : Type 0} (result : Result T StoreError) (store : StoreValue) (a b : World) → is_long e ≡ false → nat_le (need e) (gap_after s.log) ≡ true → IfErr result (IsWriteFailure a b)
+      → MovesTo spelling bytes s (logged s (Sets e)) result store a b → WroteEntry spelling bytes s (written bytes s (Sets e)) result store a b
+  wrote_logged result store a b short fits why t = turns (logged s (Sets e)) (written_fits bytes s e short fits) (is_failure result a b why) t
 
   -- it does not fit, and the memory is flushed
-  module _ (short : is_long e ≡ false) (full : nat_le (need e) (gap s.log) ≡ false) where
-    flushed_first : written bytes s e ≡ logged_then e (flushed bytes s)
-    flushed_first = written_short bytes s e short ∙ ap (λ (b : Bool). cond b (Ok (logged s e)) (logged_then e (flushed bytes s))) full
+  module _ (short : is_long e ≡ false) (full : nat_le (need e) (gap_after s.log) ≡ false) where
+    flushed_first : written bytes s (Sets e) ≡ logged_then (Sets e) (flushed bytes s)
+    flushed_first = written_short bytes s e short ∙ ap (λ (b : Bool). cond b (Ok (logged s (Sets e))) (logged_then (Sets e) (flushed bytes s))) full
 
     -- the map of a state that a flush made
     same_map : (to : State) → flushed bytes s ≡ Ok to → (image : Image) → Maps s to image → StandsForMap spelling (state_map s) image
@@ -127,31 +129,31 @@ module _ (spelling : Spelling) (bytes : FilterBytes) (s : State) (e : Entry) whe
     same_map to made image (inr map) = subst (λ (m : Map). StandsForMap spelling m image) (flushed_keeps bytes s to made) map
 
     pub flush_failed : {T U : Type 0} (x : StoreError) (store : StoreValue) (a b : World) → WroteEntry {T = T} spelling bytes s (flushed bytes s) (Err x) store a b
-        → WroteEntry {T = U} spelling bytes s (written bytes s e) (Err x) store a b
-    flush_failed x store a b (turns to made fails t) = turns (logged to e) (flushed_first ∙ ap (logged_then e) made) fails (record {
-      meanwhile = meanwhile_weaker (Maps s to) (Maps s (logged to e)) a b t.meanwhile (λ image map. inl (same_map to made image map));
+        → WroteEntry {T = U} spelling bytes s (written bytes s (Sets e)) (Err x) store a b
+    flush_failed x store a b (turns to made fails t) = turns (logged to (Sets e)) (flushed_first ∙ ap (logged_then (Sets e)) made) fails (record {
+      meanwhile = meanwhile_weaker (Maps s to) (Maps s (logged to (Sets e))) a b t.meanwhile (λ image map. inl (same_map to made image map));
       wanted = t.wanted;
       done = tt;
       refused = t.refused;
     })
-    flush_failed x store a b (refused why made failed told_is tied meanwhile) = refused why (flushed_first ∙ ap (logged_then e) made) failed told_is tied meanwhile
+    flush_failed x store a b (refused why made failed told_is tied meanwhile) = refused why (flushed_first ∙ ap (logged_then (Sets e)) made) failed told_is tied meanwhile
 
-    -- the flush is done, and the record fits behind it
+    -- the flush is done, and the record fits after it
     module _ {T U : Type 0} (x : T) (result : Result U StoreError) (between store : StoreValue) (a b c : World) (why : IfErr result (IsWriteFailure b c)) (stopped : store.stopped ≡ stopped_by result) where
-      then_turns : (to : State) → flushed bytes s ≡ Ok to → MovesTo {T = T} spelling bytes s to (Ok x) between a b → MovesTo spelling bytes to (logged to e) result store b c
-          → MovesTo spelling bytes s (logged to e) result store a c
+      then_turns : (to : State) → flushed bytes s ≡ Ok to → MovesTo {T = T} spelling bytes s to (Ok x) between a b → MovesTo spelling bytes to (logged to (Sets e)) result store b c
+          → MovesTo spelling bytes s (logged to (Sets e)) result store a c
       then_turns to made first second = record {
-        meanwhile = meanwhile_then (Maps s (logged to e)) a b c
-            (meanwhile_weaker (Maps s to) (Maps s (logged to e)) a b first.meanwhile (λ image map. inl (same_map to made image map)))
-            (meanwhile_weaker (Maps to (logged to e)) (Maps s (logged to e)) b c second.meanwhile (λ image map. elim map [ inl old ↦ inl (same_map to made image (inr old)) | inr new ↦ inr new ]));
+        meanwhile = meanwhile_then (Maps s (logged to (Sets e))) a b c
+            (meanwhile_weaker (Maps s to) (Maps s (logged to (Sets e))) a b first.meanwhile (λ image map. inl (same_map to made image map)))
+            (meanwhile_weaker (Maps to (logged to (Sets e))) (Maps s (logged to (Sets e))) b c second.meanwhile (λ image map. elim map [ inl old ↦ inl (same_map to made image (inr old)) | inr new ↦ inr new ]));
         wanted = no_want result b c _ why;
         done = second.done;
         refused = not_stopped result store.stopped _ (stops_it result b c why) stopped;
       }
 
       pub flush_then : WroteEntry {T = T} spelling bytes s (flushed bytes s) (Ok x) between a b
-          → ((to : State) → Represents spelling bytes between to b → MovesTo spelling bytes to (logged to e) result store b c)
-          → WroteEntry spelling bytes s (written bytes s e) result store a c
+          → ((to : State) → Represents spelling bytes between to b → MovesTo spelling bytes to (logged to (Sets e)) result store b c)
+          → WroteEntry spelling bytes s (written bytes s (Sets e)) result store a c
       flush_then (turns to made fails t) goes =
-          turns (logged to e) (flushed_first ∙ ap (logged_then e) made) (is_failure result b c why) (then_turns to made t (goes to t.done))
+          turns (logged to (Sets e)) (flushed_first ∙ ap (logged_then (Sets e)) made) (is_failure result b c why) (then_turns to made t (goes to t.done))
       flush_then (refused reply made failed told_is tied meanwhile) goes = absurd cc

@@ -94,7 +94,7 @@ HasCause old new (DamageMet damage) = ⊥
 abbrev pub IsTried : Bool → Option Reply → Type 0
 IsTried stopped broken = (stopped ≡ false) × (broken ≡ None)
 
--- a limit of the key or the value is the one that is broken; those of tables and of the epoch are met behind them
+-- a limit of the key or the value is the one that is broken; those of tables and of the epoch are met after them
 abbrev pub IsLimitAt : Option Reply → Limit → Type 0
 IsLimitAt broken (limit.Key size) = broken ≡ Some (reply.LongKey size)
 IsLimitAt broken (limit.Value size) = broken ≡ Some (reply.LongValue size)
@@ -128,8 +128,8 @@ IsWriteFailure old new (error.BadSettings field) = ⊥
 -- ---- a change
 
 -- From a state a request is answered so, by one step of it. At each moment meanwhile a crash leaves the map before it or the
--- one behind it; where the reply is neither that it is done nor that the device failed, the one before it alone. The store is then
--- that of the state behind the step, unless it is stopped.
+-- one after it; where the reply is neither that it is done nor that the device failed, the one before it alone. The store is then
+-- that of the state after the step, unless it is stopped.
 pub record AnswersRequest (spelling : Spelling) (filter_bytes : FilterBytes) (s : State) (request : Request) (told_as : Option Reply) (store : StoreValue) (old new : World) : Type 0 where
   pub reply : Reply
   pub told_is : told_as ≡ Some reply
@@ -160,7 +160,7 @@ IsFailure error.AlreadyAStore = ⊥
 IsFailure (error.BadSettings field) = ⊥
 
 -- What a change makes of the state, or the reply by which the state refuses it. Done or failed in the device it is the change;
--- where it is refused, by this reply or for want of memory, the store stays that of the state, and what a crash leaves its map.
+-- where it is refused, by this reply or for lack of memory, the store stays that of the state, and what a crash leaves its map.
 pub data WroteEntry {T : Type 0} (spelling : Spelling) (filter_bytes : FilterBytes) (s : State) (change : Result State Reply) (result : Result T StoreError) (store : StoreValue) (old new : World) : Type 0 where
   turns : (to : State) → change ≡ Ok to → IfErr result IsFailure → MovesTo spelling filter_bytes s to result store old new → WroteEntry spelling filter_bytes s change result store old new
   refused : (why : Reply) → change ≡ Err why → IsErr result → (told_change result ≡ Some why) ⊎ (told_change result ≡ Some reply.Memory) → Represents spelling filter_bytes store s new

@@ -12,7 +12,7 @@ use Rattle.store_core.specs.StoreValue.{StoreValue}
 use Rattle.table_model.specs.Tables.{FilterBytes}
 
 -- A store that is as another one was: then that one is as it is, too. On a device as it is, and on each image, it represents what
--- the other one represented there; and a flush and an entry meet no limit, and no want of room, where they met none.
+-- the other one represented there; and a flush and an entry meet no limit, and no lack of room, where they met none.
 pub record RepresentsAsBefore (spelling : Spelling) (filter_bytes : FilterBytes) (before after : StoreValue) (w : World) : Type 0 where
   pub back : IsAsItWas after before
   pub represents : (s : State) → Represents spelling filter_bytes before s w → Represents spelling filter_bytes after s w

@@ -18,8 +18,8 @@ use Rattle.manifest.specs.Manifest.{Manifest}
 use Rattle.manifest_model.specs.Laws.{IsVersion}
 use Rattle.manifest_model.specs.Rows.{IsTableRow, extent_of}
 use Rattle.manifest_model.specs.Version.{Version, log_page_of}
-use Rattle.state_model.specs.Changes.{live_entries}
-use Rattle.state_model.specs.Merges.{NoRoom, placed, outputs_for}
+use Rattle.state_model.specs.Changes.{compacted_outputs}
+use Rattle.state_model.specs.Merges.{NoRoom, placed}
 use Rattle.state_model.specs.Sound.{IsSound}
 use Rattle.state_model.specs.State.{State}
 use Rattle.state_model.specs.Taken.{taken}
@@ -79,7 +79,7 @@ pub record AreCompact (v : Version) (rows : List Row) : Type 0 where
   pub deepest : AllByRecursion (λ (row : Row). row.level ≡ max_level) rows
   pub laid : AreLaid v.pages (map extent_of (v.rows ++ rows))
 
--- the version in which some tables stand alone, and the other log area is in use
+-- the version in which some tables are alone, and the other log area is in use
 abbrev pub compacted_manifest : Manifest → List Row → Manifest
 compacted_manifest m rows = record m { version = record m.version { log_page = other_log_page m.version; rows = rows } }
 
@@ -105,12 +105,12 @@ pub record IsHeldBy (spelling : Spelling) (filter_bytes : FilterBytes) (m : Mani
 
 -- what its live pairs become, and the first of these tables
 abbrev pub compact_tables : FilterBytes → State → Result (List Table) NoRoom
-compact_tables filter_bytes s = placed filter_bytes s.settings s.pages (taken s) max_level (outputs_for s.tables (live_entries s))
+compact_tables filter_bytes s = placed filter_bytes s.settings s.pages (taken s) max_level (compacted_outputs s)
 
 abbrev pub first_compact_table : FilterBytes → State → Result (List Table) NoRoom
-first_compact_table filter_bytes s = placed filter_bytes s.settings s.pages (taken s) max_level (take 1 (outputs_for s.tables (live_entries s)))
+first_compact_table filter_bytes s = placed filter_bytes s.settings s.pages (taken s) max_level (take 1 (compacted_outputs s))
 
--- the state in which they stand alone
+-- the state in which they are alone
 abbrev pub compacted_into : List Table → State → State
 compacted_into tables s = record s { epoch = s.epoch + 1; log = []; tables = tables; job = None }
 
@@ -119,7 +119,7 @@ abbrev pub IsFailedCall : FilterBytes → State → World → World → DiskFaul
 IsFailedCall filter_bytes s old new cause =
     (ReadRose old new cause × (s.tables ≢ [])) ⊎ ((is_write cause.op ≡ true) × Rose old.seen.write_faults new.seen.write_faults × IsOk (first_compact_table filter_bytes s))
 
--- Want of memory; a call that failed; or a table that has no room.
+-- Lack of memory; a call that failed; or a table that has no room.
 abbrev pub IsWritingCause : FilterBytes → State → World → World → JobFault → Type 0
 IsWritingCause filter_bytes s old new job.Memory = Unit {0}
 IsWritingCause filter_bytes s old new (job.Device cause) = IsFailedCall filter_bytes s old new cause
@@ -137,13 +137,13 @@ IsCompactCause filter_bytes s old new error.NotAStore = ⊥
 IsCompactCause filter_bytes s old new error.AlreadyAStore = ⊥
 IsCompactCause filter_bytes s old new (error.BadSettings field) = ⊥
 
--- these open tables are those, and stand on each image that a crash may leave now
+-- these open tables are those, and are on each image that a crash may leave now
 pub record AreAllMade (spelling : Spelling) (filter_bytes : FilterBytes) (s : State) (made : List Opened) (w : World) : Type 0 where
   pub tables : List Table
   pub placed_so : compact_tables filter_bytes s ≡ Ok tables
   pub held : Now (TablesAgree spelling made tables) w
 
--- they stand alone, under this version
+-- they are alone, under this version
 pub record StandAlone (spelling : Spelling) (filter_bytes : FilterBytes) (s : State) (m : Manifest) (opened : List Opened) (w : World) : Type 0 where
   pub tables : List Table
   pub placed_so : compact_tables filter_bytes s ≡ Ok tables

@@ -17,9 +17,10 @@ use Rattle.manifest.specs.declared.fault.ManifestFault.{ManifestFault}
 use Rattle.manifest.specs.declared.fault.ManifestFault.TheVariants as fault
 use Rattle.manifest_model.specs.Version.{Version, log_page_of}
 use Rattle.map_model.specs.SortedMap.{Bytes}
+use Rattle.range_model.specs.Sources.{Sets, alone}
 use Rattle.state_model.specs.Changes.{logged}
 use Rattle.state_model.specs.State.{State}
-use Rattle.state_model.specs.View.{memory, state_map}
+use Rattle.state_model.specs.View.{in_memory, memory, state_map}
 use Rattle.store_core.specs.Answers.{is_write}
 use Rattle.store_core.specs.StoreValue.{StoreValue}
 use Rattle.store_core.specs.Running.{extents_with}
@@ -47,7 +48,7 @@ entries_with entries (Some entry) = with_entry entries entry
 -- the state of whose memory entries these are
 abbrev pub state_with : State → Option Entry → State
 state_with s None = s
-state_with s (Some entry) = logged s entry
+state_with s (Some entry) = logged s (Sets entry)
 
 -- the entries below a key, and those above it: between them an entry of the key has its place
 abbrev pub entries_below : List Entry → Bytes → List Entry
@@ -56,9 +57,9 @@ entries_below entries key = filter (λ (e : Entry). is_before e.key key) entries
 abbrev pub entries_above : List Entry → Bytes → List Entry
 entries_above entries key = filter (λ (e : Entry). is_before key e.key) entries
 
--- The one state is the other but for its log, which may be one that fits no log area.
+-- The one state is the other but for its log, which may be one that fits no log area, and makes no deleted range.
 abbrev pub DiffersInLog : State → State → Type 0
-DiffersInLog s over = over ≡ record s { log = over.log }
+DiffersInLog s over = (over ≡ record s { log = over.log }) × (in_memory over ≡ alone (memory over))
 
 -- ---- the version to come
 
@@ -90,7 +91,7 @@ pub record IsPlan (spelling : Spelling) (built_cutoff : ℕ → List Leaf → �
   pub row_is : row ≡ made_row spelling built_cutoff parts 0 row.first_page
   pub next_is : next ≡ next_manifest m row
 
--- no gap holds so many pages, and the largest has fewer
+-- no gap holds a given number of pages, and the largest has fewer
 abbrev pub IsNoPlace : ℕ → ℕ → StoreError → Type 0
 IsNoPlace need largest error.Memory = Unit {0}
 IsNoPlace need largest (error.Device cause) = ⊥
@@ -107,7 +108,7 @@ abbrev pub IsNoRoomFor : Option ℕ → ℕ → StoreError → Type 0
 IsNoRoomFor None largest why = ⊥
 IsNoRoomFor (Some need) largest why = IsNoPlace need largest why
 
--- where it tells of want of room, it names so many pages
+-- where it tells of lack of room, it names a given number of pages
 abbrev pub IsFullFor : ℕ → StoreError → Type 0
 IsFullFor need error.Memory = Unit {0}
 IsFullFor need (error.Device cause) = Unit {0}
@@ -119,7 +120,7 @@ IsFullFor need error.NotAStore = Unit {0}
 IsFullFor need error.AlreadyAStore = Unit {0}
 IsFullFor need (error.BadSettings field) = Unit {0}
 
--- by a limit: first the tables, and behind the room beside the outputs the epoch
+-- by a limit: first the tables, and after the room beside the outputs the epoch
 abbrev pub IsPlanLimit : FilterBytes → Version → List Row → List Entry → Limit → Type 0
 IsPlanLimit filter_bytes v outputs entries (limit.Key size) = ⊥
 IsPlanLimit filter_bytes v outputs entries (limit.Value size) = ⊥
@@ -142,7 +143,7 @@ IsPlanRefusal filter_bytes v outputs entries (error.BadSettings field) = ⊥
 
 -- ---- what is made of it
 
--- the state behind a flush whose table begins at a page
+-- the state after a flush whose table begins at a page
 abbrev pub flushed_at : FilterBytes → ℕ → State → State
 flushed_at filter_bytes page s = record s { epoch = s.epoch + 1; log = []; tables = table_of filter_bytes s.settings 0 page (memory s) ∷ s.tables }
 
@@ -156,7 +157,7 @@ IsFlushFault old new fault.Epoch = ⊥
 IsFlushFault old new (fault.Damaged damage) = ⊥
 
 -- What is planned of the memory entries of `over` is written: meanwhile a crash leaves the map of the state or that of `over`,
--- which are one where nothing is put over the memory; at Ok the state behind the flush holds under the new manifest with the new
+-- which are one where nothing is put over the memory; at Ok the state after the flush holds under the new manifest with the new
 -- table; and where memory was wanted all is as it was, and a crash leaves the map of the state alone.
 pub record FlushedTo {T : Type 0} (spelling : Spelling) (built_cutoff : ℕ → List Leaf → ℕ) (store : StoreValue) (s over : State) (parts : Built) (row : Row) (next : Manifest)
     (result : Result T ManifestFault) (old new : World) : Type 0 where

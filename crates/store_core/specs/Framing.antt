@@ -10,7 +10,7 @@ use Rattle.manifest.specs.Manifest.{Manifest, place_of}
 
 -- ---- places
 
--- one of so many bytes from a place on
+-- one of a given number of bytes from a place on
 abbrev pub IsWithin : ℕ → ℕ → ℕ → Type 0
 IsWithin at n place = (at ≤ place) × (place < at + n)
 
@@ -19,12 +19,12 @@ abbrev pub IsInTables : List Row → ℕ → Type 0
 IsInTables [] place = ⊥
 IsInTables (row ∷ rows) place = IsWithin (byte_of_page row.first_page) (page_bytes * pages_of row) place ⊎ IsInTables rows place
 
--- in the slot in use, in so many bytes of the log in use, or in the pages of a table of the version
+-- in the slot in use, in a given number of bytes of the log in use, or in the pages of a table of the version
 abbrev pub IsInUse : Manifest → ℕ → ℕ → Type 0
 IsInUse m logged place =
     IsWithin (place_of m.slot) slot_bytes place ⊎ IsWithin (byte_of_page m.version.log_page) logged place ⊎ IsInTables m.version.rows place
 
--- in use, or elsewhere in the log area in use; but not in a record of so many bytes that is put behind the log, where it fits
+-- in use, or elsewhere in the log area in use; but not in a record of a given number of bytes that is put after the log, where it fits
 abbrev pub IsBesideRecord : Manifest → ℕ → ℕ → ℕ → Type 0
 IsBesideRecord m logged size place =
     IsInUse m log_bytes place × (logged + size ≤ log_bytes → IsWithin (byte_of_page m.version.log_page + logged) size place → ⊥)

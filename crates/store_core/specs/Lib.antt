@@ -37,12 +37,11 @@ pub mod Flushing
 pub mod Refusing
 pub mod AsBefore
 pub mod Framing
-pub mod Installing
 pub mod Tending
 pub mod Telling
 pub mod Scans
 pub mod Counts
-pub mod Replacing
+pub mod Install
 pub mod Compacting
 pub mod Resetting
 pub mod Numbering

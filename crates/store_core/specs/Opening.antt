@@ -37,7 +37,7 @@ AreOpened spelling (opened ∷ more) image = IsOpen spelling opened image × Are
 
 -- the level of an open table, and its least and its greatest key
 abbrev pub opened_range : Opened → KeyRange
-opened_range t = record { level = t.row.level; least = t.index.least; greatest = (row_at t.index.rows (length t.index.rows - 1)).last }
+opened_range t = record { level = t.row.level; least = t.index.least; greatest = (row_at t.index.rows (length t.index.rows - 1)).last; reach = [] }
 
 -- the damage of the tables of some rows is the first of them
 abbrev pub IsTablesAnswer : Spelling → (Bytes → Fault) → List Row → Image → StoreError → Type 0
@@ -68,7 +68,7 @@ pub record IsVersionOpened (spelling : Spelling) (image : Image) (m : Manifest) 
   pub tables : AreOpened spelling ts image
   pub ranges : ranges_fault (map opened_range ts) ≡ None
 
--- The image opens with the version of the store, which stands in its slot, and with some log: the one in memory ends behind its
+-- The image opens with the version of the store, which is in its slot, and with some log: the one in memory ends after its
 -- entries, the newest of them are in the memory table, the open tables are those of the version's rows, no merge runs, and no
 -- block is kept.
 pub record IsOpenedAs (spelling : Spelling) (image : Image) (store : StoreValue) : Type 0 where

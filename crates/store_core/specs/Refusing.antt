@@ -1,4 +1,4 @@
--- When a limit of tables or of the epoch, want of room or of memory, refuses a call, by what the store is.
+-- When a limit of tables or of the epoch, lack of room or of memory, refuses a call, by what the store is.
 use Rattle.std.specs.Prelude.{◌≡◌, ◌≢◌, ◌⊎◌, ◌<◌, ◌+◌, ℕ, true, List, [], length, Some, if◌then◌else◌}
 use Rattle.disk_trait.specs.World.{ReadMoves, World}
 use Rattle.entry_model.specs.Entries.{Entry, need}
@@ -14,7 +14,7 @@ use Rattle.store_core.specs.declared.error.StoreError.{StoreError}
 use Rattle.store_core.specs.declared.error.StoreError.TheVariants as error
 use Rattle.table_model.specs.Tables.{FilterBytes}
 
--- No limit of tables or of the epoch is met, nor want of room: the tables are fewer than the most, a gap holds the table of these
+-- No limit of tables or of the epoch is met, nor lack of room: the tables are fewer than the most, a gap holds the table of these
 -- entries, and an epoch is left.
 pub record MayBeFlushed (filter_bytes : FilterBytes) (store : StoreValue) (entries : List Entry) : Type 0 where
   pub few : length store.manifest.version.rows < max_tables
@@ -34,7 +34,7 @@ pub record IsRefusedFlush (filter_bytes : FilterBytes) (store : StoreValue) (ent
 abbrev pub IsWantingFlush : FilterBytes → StoreValue → List Entry → World → World → Type 0
 IsWantingFlush filter_bytes store entries old new = (entries ≢ []) × (ReadMoves 0 old new ⊎ MayBeFlushed filter_bytes store entries)
 
--- a limit, want of room or of memory, refuses a flush of these entries in the store only so
+-- a limit, lack of room or of memory, refuses a flush of these entries in the store only so
 abbrev pub IsFlushDue : FilterBytes → StoreValue → List Entry → World → World → StoreError → Type 0
 IsFlushDue filter_bytes store entries old new error.Memory = IsWantingFlush filter_bytes store entries old new
 IsFlushDue filter_bytes store entries old new (error.Device cause) = Unit {0}
@@ -72,7 +72,7 @@ abbrev pub IsWantingBefore : FilterBytes → StoreValue → Entry → World → 
 IsWantingBefore filter_bytes store entry old new =
     ReadMoves 0 old new ⊎ (AsksForFlush store entry × (flushed_for store entry ≢ []) × MayBeFlushed filter_bytes store (flushed_for store entry))
 
--- a limit, want of room or of memory, refuses an entry only so; the limits of a key and of a value are looked at before any call, too
+-- a limit, lack of room or of memory, refuses an entry only so; the limits of a key and of a value are looked at before any call, too
 abbrev pub IsWriteDue : FilterBytes → StoreValue → Entry → World → World → StoreError → Type 0
 IsWriteDue filter_bytes store entry old new error.Memory = IsWantingBefore filter_bytes store entry old new
 IsWriteDue filter_bytes store entry old new (error.Device cause) = Unit {0}

@@ -2,12 +2,12 @@
 use Rattle.std.specs.Prelude.{◌≡◌, List, [], Option}
 use Rattle.disk_trait.specs.Image.{Image}
 use Rattle.disk_trait.specs.World.{Now, World}
-use Rattle.entry_model.specs.Entries.{filled}
 use Rattle.filter_api.specs.Spellings.{Spelling}
 use Rattle.image_model.specs.Stands.{IsReady}
 use Rattle.store_search.specs.TablesAgree.{TablesAgree}
 use Rattle.level_merge.specs.JobValue.{JobValue}
 use Rattle.manifest.specs.Manifest.{Manifest, other_place, place_of}
+use Rattle.state_model.specs.Logs.{filled_by}
 use Rattle.state_model.specs.Sound.{IsSound}
 use Rattle.state_model.specs.State.{State}
 use Rattle.state_model.specs.View.{memory}
@@ -25,13 +25,13 @@ pub record RepresentsOn (spelling : Spelling) (m : Manifest) (opened : List Open
   pub job : RunsAs spelling opened running s s.job image
 
 -- The state is sound; each image that a crash may leave now stands for it, as the store has it, with the merge that runs; the log
--- in memory ends behind the state's entries, of which the newest are in the memory table; and each block that is kept says what
+-- in memory ends after the state's entries, of which the newest are in the memory table; and each block that is kept says what
 -- its table says.
 pub record Represents (spelling : Spelling) (filter_bytes : FilterBytes) (store : StoreValue) (s : State) (w : World) : Type 0 where
   pub sound : IsSound filter_bytes s
   pub none_kept : s.kept ≡ []
   pub images : Now (RepresentsOn spelling store.manifest store.tables store.job s) w
-  pub log : store.log.filled ≡ filled s.log
+  pub log : store.log.filled ≡ filled_by s.log
   pub memory : store.memory.entries ≡ memory s
   pub blocks : CacheAgrees store.blocks store.tables s.tables
 

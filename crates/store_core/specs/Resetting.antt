@@ -24,12 +24,12 @@ bad_pages now pages = if nat_lt pages now || nat_lt max_device_pages pages then 
 
 -- ---- on a device that stands for a state
 
--- the change is made, and the state behind it has P
+-- the change is made, and the state after it has P
 abbrev pub IsMade : Result State Reply → (State → Type 0) → Type 0
 IsMade (Ok to) P = P to
 IsMade (Err why) P = ⊥
 
--- A change of a state's numbers: at each moment a crash leaves the state before it or the one behind it, not its map alone. At
+-- A change of a state's numbers: at each moment a crash leaves the state before it or the one after it, not its map alone. At
 -- Ok the store is that of the second; where it is refused and not stopped, that of the first, with its job.
 pub record Resets {T : Type 0} (spelling : Spelling) (filter_bytes : FilterBytes) (from : State) (change : Result State Reply) (result : Result T StoreError) (store : StoreValue) (old new : World) : Type 0 where
   pub meanwhile : Meanwhile (λ image. StandsFor spelling from image ⊎ IsMade change (λ to. StandsFor spelling to image)) old new

@@ -27,7 +27,7 @@ use Rattle.table_file.specs.Search.{IsGetFault, IsSoundBlock}
 use Rattle.table_file.specs.declared.fault.TableFault.TheVariants as table
 use Rattle.table_model.specs.Tables.{Table}
 
--- Where a scan stands: the tables, the merge of their rows and those in memory, the upper bound, how many pairs more it gives
+-- Where a scan is: the tables, the merge of their rows and those in memory, the upper bound, how many pairs more it gives
 -- at most, and the pair at hand.
 pub record ScanWalk : Type 0 where
   pub tables : List Opened
@@ -73,7 +73,7 @@ abbrev pub given : Bool → Option Entry → Map → Map
 given true row later = with_first (pair_in row) later
 given false row later = []
 
--- no more than so many
+-- no more than that many
 abbrev pub at_most : Option ℕ → Map → Map
 at_most None pairs = pairs
 at_most (Some n) pairs = take n pairs
@@ -110,7 +110,7 @@ blocks_admitting low high (t ∷ older) = if admits_keys low high t then length 
 abbrev pub blocks_to_come : ScanWalk → ℕ
 blocks_to_come scan = blocks_left scan.tables scan.merge.walks
 
--- the blocks that a walk may want before the rows are passed whose keys pass a test: one where the next row wants it, and one more
+-- the blocks that a walk may need before the rows are passed whose keys pass a test: one where the next row needs it, and one more
 -- for each of its entries there
 abbrev pub owed : (Bytes → Bool) → KeyFloor → List Opened → Image → TableWalk → ℕ
 owed below floor tables image w = ones (wants floor tables w) + count_by (λ (e : Entry). clears floor e.key && below e.key) (walk_left tables image w)
@@ -201,7 +201,7 @@ is_ended (Some n) = n == 0
 abbrev pub one_fewer : Option ℕ → Option ℕ
 one_fewer left = option_map (λ (n : ℕ). n - 1) left
 
--- behind a step that gave a pair or not
+-- after a step that gave a pair or not
 abbrev pub left_behind : Bool → Option ℕ → Option ℕ
 left_behind true left = one_fewer left
 left_behind false left = Some 0

@@ -32,7 +32,7 @@ pub record StoreValue : Type 0 where
 abbrev pub rows_of : List Opened → List Row
 rows_of tables = map (λ (t : Opened). t.row) tables
 
--- the log ends behind the records of some entries, and the newest of them are in memory
+-- the log ends after the records of some entries, and the newest of them are in memory
 pub record IsOfEntries (log : Position) (memory : List Entry) : Type 0 where
   pub entries : List Entry
   pub sound : AllByRecursion IsLogged entries

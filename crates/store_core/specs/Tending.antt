@@ -24,7 +24,7 @@ use Rattle.state_model.specs.Tends as model
 use Rattle.state_model.specs.Tends.{Progresses, Runs, Tend, with_job}
 use Rattle.state_model.specs.View.{state_map}
 use Rattle.store_core.specs.Answers.{HasCause, stops, told, told_limit}
-use Rattle.store_core.specs.Replacing.{tables_behind}
+use Rattle.store_core.specs.Install.{tables_behind}
 use Rattle.store_core.specs.Running.{extents_with}
 use Rattle.store_core.specs.Staying.{IsAsItWas}
 use Rattle.store_core.specs.StoreValue.{StoreValue, rows_of}
@@ -48,7 +48,7 @@ told_slice (Ok (tended.Full need gap)) = Some (model.Refused (reply.Full need ga
 told_slice (Err why) = option_map (λ (r : reply.Reply). model.Refused r) (told why)
 
 -- From a state a merge slice is answered so: by a merge slice of that state. At each moment meanwhile a crash leaves its map.
--- The store is then that of the state behind the merge slice, unless it is stopped.
+-- The store is then that of the state after the merge slice, unless it is stopped.
 pub record Tends (spelling : Spelling) (filter_bytes : FilterBytes) (s : State) (told_as : Option model.Tended) (store : StoreValue) (old new : World) : Type 0 where
   pub tended : model.Tended
   pub told_is : told_as ≡ Some tended
@@ -157,7 +157,7 @@ IsWithoutRoom filter_bytes before tended.Idle = Unit {0}
 IsWithoutRoom filter_bytes before (tended.Full need gap) =
     (m : JobValue) × IsMergeAtHand before m × IsWithoutRoomOf filter_bytes before.manifest.version m (tended.Full need gap)
 
--- reads, and writes on so many bytes of the device
+-- reads, and writes on a given number of bytes of the device
 abbrev pub SomeMoves : ℕ → World → World → Type 0
 SomeMoves bytes old new = (most : ℕ) × Moves 0 bytes most old new
 
@@ -175,7 +175,7 @@ abbrev pub IsMergeTakenOut : StoreValue → Option JobValue → Type 0
 IsMergeTakenOut store None = Unit {0}
 IsMergeTakenOut store (Some m) = IsMergeAtHand store m
 
--- The merge that runs, or one that begins where none does, is that of a job of the state, as each image on which the store stands
+-- The merge that runs, or one that begins where none does, is that of a job of the state, as each image on which the store is
 -- shows it. Where there is none nothing is to be merged.
 abbrev pub IsNext : Spelling → StoreValue → State → Option JobValue → Type 0
 IsNext spelling store s None = (s.job ≡ None) × (choose s.tables ≡ None)
@@ -183,7 +183,7 @@ IsNext spelling store s (Some m) =
     (job : Job) × Runs s job × ((image : Image) → RepresentsOn spelling store.manifest store.tables store.job s image
     → RepresentsOn spelling store.manifest store.tables (Some m) (with_job s job) image)
 
--- the job goes on, and the store stands with its merge as it is then
+-- the job goes on, and the store is with its merge as it is then
 pub record GoesOn (spelling : Spelling) (filter_bytes : FilterBytes) (store : StoreValue) (s : State) (job : Job) (m : JobValue) (w : World) (sliced : Sliced) : Type 0 where
   pub later : Job
   pub progresses : Progresses filter_bytes s job later
@@ -191,7 +191,7 @@ pub record GoesOn (spelling : Spelling) (filter_bytes : FilterBytes) (store : St
   pub tied : Represents spelling filter_bytes (record store { job = Some m }) (with_job s later) w
 
 -- A merge slice of the merge that follows a job of a state: meanwhile a crash leaves the map of the state. The job goes on, or
--- it is refused with its cause and the store stands without it.
+-- it is refused with its cause and the store is without it.
 pub record SlicesJob (spelling : Spelling) (filter_bytes : FilterBytes) (store : StoreValue) (s : State) (job : Job) (m : JobValue) (result : Result Sliced JobFault) (old new : World) : Type 0 where
   pub meanwhile : Meanwhile (StandsForMap spelling (state_map s)) old new
   pub done : MatchResult result (GoesOn spelling filter_bytes store s job m new) (IsJobRefusal filter_bytes s job old new)

@@ -11,7 +11,7 @@ ghost use Rattle.filter_api.specs.Ranges.{IsRowInRange};
 ghost use Rattle.manifest_model.specs.Laws.{IsVersion, RowFits};
 ghost use Rattle.state_model.specs.State.{State, without_job};
 ghost use Rattle.state_model.specs.View.{state_map};
-ghost use Rattle.store_core.specs.Answers.{AnswersRequest, IsTried, stopped_by, stops, told_change};
+ghost use Rattle.store_core.specs.Answers.{AnswersRequest, IsTried, stopped_by, told_change};
 ghost use Rattle.store_core.specs.Compacting.{AreAllMade, AreCompact, FailsSo, HasItsPages, IsCompactFault, IsCompactRefusal, IsHeldBy, IsInstalledWhole, IsWritingCause, IsWritingFault, StandAlone, compacted_manifest};
 ghost use Rattle.store_core.specs.Faults.{of_job_fault};
 ghost use Rattle.store_core.specs.Framing.{IsInUse, LeavesPlaces};
@@ -23,22 +23,22 @@ ghost use Rattle.store_core.specs.Tending.{SomeMoves};
 ghost use Rattle.store_core.specs.Represents.{Represents, RepresentsOn};
 ghost use Rattle.table_model.specs.Tables.{filter_bytes_of};
 
-use crate::error::{Limit, StoreError};
+use crate::error::{Limit, StoreError, stops_store};
 use crate::flushing::extents_of;
-use crate::replacing::row_of;
+use crate::install::row_of;
 use crate::store::Store;
 use byte_fields::Row;
-use disk_trait::{Disk, Op};
+use disk_trait::Disk;
 use filter_api::RangeFilter;
 use gate_log::Log;
 use key_base::LAST_EPOCH;
-use level_merge::{Job, JobFault, Sliced, merges_begin};
+use level_merge::{Job, JobFault, Sliced};
 use manifest::{Version, install};
 use mem_table::MemTable;
 use std::alloc::{AllocError, Global};
 use table_file::{Table, Tables};
 
-// So many blocks are read in one merge slice of a compaction.
+// A given number of blocks are read in one merge slice of a compaction.
 const SLICE_BLOCKS: u32 = 64;
 
 // What a compaction has installed.
@@ -74,7 +74,7 @@ fn write_all<F: RangeFilter, D: Disk>(
     ensures moves { SomeMoves (page_bytes * version.now.version.pages) (D.world disk.old) (D.world disk.new) }
 {
     // the law of merges: this one makes the tables of a compaction
-    merges_begin();
+    level_merge::laws::merges_begin();
     have_their_pages(tables.as_slice());
     let mut extents = extents_of(alloc, version, &[])?;
     let mut job = Job::compact(alloc, version.settings, memory, tables)?;
@@ -120,7 +120,7 @@ fn all_rows<F: RangeFilter>(alloc: Global, tables: &[Table<F>]) -> Result<Vec<Ro
     Ok(rows)
 }
 
-// The version in which some tables stand alone, and the other log area is in use.
+// The version in which some tables are alone, and the other log area is in use.
 fn compacted_version<F: RangeFilter>(
     alloc: Global,
     version: &Version,
@@ -142,7 +142,7 @@ fn compacted_version<F: RangeFilter>(
     })
 }
 
-// Writes the tables, begins the other log, and installs the version in which they stand alone.
+// Writes the tables, begins the other log, and installs the version in which they are alone.
 fn replace_all<F: RangeFilter, D: Disk>(
     alloc: Global,
     disk: &mut D,
@@ -180,22 +180,12 @@ fn replace_all<F: RangeFilter, D: Disk>(
     })
 }
 
-// Whether a refusal stops the store: a write or a sync failed.
-pub(crate) fn stops_store(why: &StoreError) -> bool
-    ensures { result ≡ stops why.now }
-{
-    match why {
-        StoreError::Device(fault) => fault.op != Op::Read,
-        _ => false,
-    }
-}
-
 impl<F: RangeFilter> Store<F> {
-    /// Merges all that the store holds into tables of the last level, in which the live pairs stand alone, and begins the
+    /// Merges all that the store holds into tables of the last level, in which the live pairs are alone, and begins the
     /// other log area. A merge that runs is dropped. On an empty store it does nothing.
     ///
     /// The tables are written and made to last, then the other log area is begun, then the version is installed, then the
-    /// memory is cleared. Until the pages of the old tables are given up, the new ones need as many beside them. Behind it a
+    /// memory is cleared. Until the pages of the old tables are given up, the new ones need as many beside them. After it a
     /// get reads at most one block.
     pub fn compact<D: Disk>(&mut self, disk: &mut D) -> Result<(), StoreError>
         ensures answered { (s : State) → IsTrue D.tells → self.old.stopped ≡ false → Represents F.spelling (filter_bytes_of F.spelling F.built_cutoff) self.old s (D.world disk.old)

@@ -1,10 +1,11 @@
 //! Why a call of the store is refused.
 ghost use Rattle.std.specs.Prelude.{◌≡◌};
+ghost use Rattle.store_core.specs.Answers.{stops};
 ghost use Rattle.store_core.specs.Faults.{of_job_fault, of_log_fault, of_manifest_fault, of_table_fault};
 ghost use Rattle.store_core.specs.declared.error.StoreError.TheVariants.{BadSettings as bad_settings, Device, Memory};
 
 use byte_fields::{Damage, Part};
-use disk_trait::DiskFault;
+use disk_trait::{DiskFault, Op};
 use filter_api::{BadSettings, Field};
 use gate_log::LogFault;
 use level_merge::JobFault;
@@ -15,9 +16,9 @@ use table_file::TableFault;
 /// A limit that a call would break.
 #[derive(Clone, Copy, Debug, PartialEq, Eq)]
 pub enum Limit {
-    /// The key has so many bytes: none, or more than 1,024.
+    /// The key has a given number of bytes: none, or more than 1,024.
     Key(u64),
-    /// The value has so many bytes, more than 1,048,576.
+    /// The value has a given number of bytes, more than 1,048,576.
     Value(u64),
     /// The version has 1,024 tables.
     Tables,
@@ -37,7 +38,7 @@ pub enum StoreError {
     Stopped,
     /// A limit is broken.
     Limit(Limit),
-    /// A table needs so many pages, and the largest gap has fewer.
+    /// A table needs a given number of pages, and the largest gap has fewer.
     Full { need: u64, gap: u64 },
     /// A part of the device that was read is damaged.
     Damaged(Damage),
@@ -47,6 +48,16 @@ pub enum StoreError {
     AlreadyAStore,
     /// This number is out of range: of a new store, of other settings, or of more pages.
     BadSettings(Field),
+}
+
+// Whether a refusal stops the store: a write or a sync failed.
+pub(crate) fn stops_store(why: &StoreError) -> bool
+    ensures { result ≡ stops why.now }
+{
+    match why {
+        StoreError::Device(fault) => fault.op != Op::Read,
+        _ => false,
+    }
 }
 
 impl From<AllocError> for StoreError {

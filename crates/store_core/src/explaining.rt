@@ -19,7 +19,7 @@ use crate::store::Store;
 use filter_api::RangeFilter;
 use key_base::compare;
 use mem_table::MemTable;
-use table_file::{Table, standing_tables_are_read};
+use table_file::Table;
 
 /// How many tables there are, how many of their filters admit a key, and of how many of these a block is read for it.
 #[derive(Clone, Copy, Debug, PartialEq, Eq)]
@@ -121,7 +121,7 @@ impl<F: RangeFilter> Store<F> {
         }
         check_key(key)?;
         // the law of the tables below: a block is read exactly where the state says that its table is searched
-        standing_tables_are_read();
+        table_file::laws::standing_tables_are_read();
         let tables = self.tables.as_slice();
         Ok(Explained {
             tables: tables.len() as u64,

@@ -30,8 +30,7 @@ ghost use Rattle.store_core.specs.Represents.{Represents};
 ghost use Rattle.store_core.specs.Staying.{DoesNothing, Stays};
 ghost use Rattle.table_model.specs.Tables.{filter_bytes_of, table_pages};
 
-use crate::compacting::stops_store;
-use crate::error::{Limit, StoreError};
+use crate::error::{Limit, StoreError, stops_store};
 use crate::long_values::build_with;
 use crate::store::Store;
 use byte_fields::Row;
@@ -40,7 +39,7 @@ use extent_map::{Extents, NoGap};
 use filter_api::{RangeFilter, Settings};
 use gate_log::Log;
 use key_base::{LAST_EPOCH, MAX_TABLES};
-use level_merge::{Job, jobs_are_followed};
+use level_merge::Job;
 use manifest::{ManifestFault, Version, install};
 use mem_table::MemTable;
 use std::alloc::{AllocError, Global};
@@ -139,7 +138,7 @@ fn with_row(alloc: Global, row: Row, rows: &[Row]) -> Result<Vec<Row>, AllocErro
     Ok(all)
 }
 
-// The first page of the first gap that holds so many pages, beside the outputs of a merge.
+// The first page of the first gap that holds a given number of pages, beside the outputs of a merge.
 fn place_for(
     alloc: Global,
     version: &Version,
@@ -175,7 +174,7 @@ fn next_version(alloc: Global, version: &Version, row: Row) -> Result<Version, A
     })
 }
 
-// Whether there is room for a table that needs so many pages, where that is known before it is built.
+// Whether there is room for a table that needs a given number of pages, where that is known before it is built.
 fn check_room(
     alloc: Global,
     version: &Version,
@@ -257,8 +256,8 @@ fn write_plan<F: RangeFilter, D: Disk>(
     ensures cause { IfErr result (IsFlushFault (D.world disk.old) (D.world disk.new)) }
     ensures moves { WriteMoves 0 (page_bytes * plan.now.next.version.pages) (D.world disk.old) (D.world disk.new) }
 {
-    // the law of merges: one that runs goes on behind a flush, and is left by what is written elsewhere
-    jobs_are_followed();
+    // the law of merges: one that runs goes on after a flush, and is left by what is written elsewhere
+    level_merge::laws::jobs_are_followed();
     write_parts(disk, plan.row.first_page, &plan.parts)?;
     let log = Log::start(disk, plan.next.log_area)?;
     install(alloc, disk, &plan.next)?;

@@ -42,9 +42,9 @@ fn check_numbers(settings: Settings, pages: u64) -> Result<(), BadSettings>
 }
 
 impl<F: RangeFilter> Store<F> {
-    /// Makes the device an empty store of so many pages, 512 to 16,777,216, with filters by these settings.
+    /// Makes the device an empty store of a given number of pages, 512 to 16,777,216, with filters by these settings.
     ///
-    /// Whether a store stands there already is looked at before anything is written, and one that does stays as it is. Where
+    /// Whether a store is there already is looked at before anything is written, and one that does stays as it is. Where
     /// no image had an open slot at the start, each image that a crash may leave meanwhile is no store or the new one, and at
     /// `Ok` the new one alone.
     pub fn format<D: Disk>(

@@ -23,7 +23,7 @@ use disk_trait::Disk;
 use filter_api::RangeFilter;
 use store_search::{Spot, look_and_keep};
 
-// Where the newest entry of a key stands.
+// Where the newest entry of a key is.
 #[derive(Clone, Copy)]
 pub(crate) enum Place {
     Nowhere,
@@ -68,7 +68,7 @@ impl<F: RangeFilter> Store<F> {
         Ok(self.value_at(place, key))
     }
 
-    // Where the newest entry of a key stands.
+    // Where the newest entry of a key is.
     fn look_for<D: Disk>(&mut self, disk: &mut D, key: &[u8]) -> Result<Place, StoreError>
         ensures asked { Asked F.spelling (filter_bytes_of F.spelling F.built_cutoff) D.tells self.old self.new (D.world disk.old) (D.world disk.new) }
         ensures place { IfOk result (λ place. IsPlaceIn place self.new.buffer) }

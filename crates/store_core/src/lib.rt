@@ -1,8 +1,8 @@
 //! A key-value store over a device: its log, its tables, and the newest entry of each key in memory.
 //!
 //! A [`Store`] is generic in the kind of filter that its tables have, and each call takes any device. [`Store::format`] makes
-//! a device an empty store, and [`Store::open_store`] opens the one that stands there. [`Store::put`] and [`Store::delete`]
-//! write a record to the log before the entry stands in memory; where it does not fit, [`Store::flush`] makes the memory a
+//! a device an empty store, and [`Store::open_store`] opens the one that is there. [`Store::put`] and [`Store::delete`]
+//! write a record to the log before the entry is in memory; where it does not fit, [`Store::flush`] makes the memory a
 //! table of level 0. A value of over 65,536 bytes goes with the memory into such a
 //! table at once. [`Store::get`] looks for a key in memory and then in the tables, newest first, and reads at most one
 //! block of each, and none that it keeps. [`Store::seek`] and [`Store::range`] give the pairs between two bounds, by rising
@@ -34,13 +34,12 @@ mod explaining;
 mod flushing;
 mod formatting;
 mod getting;
-mod installing;
+mod install;
 mod limits;
 mod long_values;
 mod numbers;
 mod opening;
 mod putting;
-mod replacing;
 mod resetting;
 mod scanning;
 mod store;

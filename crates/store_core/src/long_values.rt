@@ -57,7 +57,7 @@ fn add_above(builder: &mut TableBuilder, memory: &MemTable, key: &[u8]) -> Resul
     Ok(())
 }
 
-/// The table of all entries of the memory, with an entry over them: it stands at its key's place, where an older one of that key
+/// The table of all entries of the memory, with an entry over them: it is at its key's place, where an older one of that key
 /// goes. Its value is copied once, into its block.
 pub(crate) fn build_with<F: RangeFilter>(
     alloc: Global,

@@ -1,7 +1,7 @@
 //! What a store has, in numbers, and the tables that are open.
 ghost use Rattle.std.specs.Prelude.{◌≡◌, [], IfErr, IfOk, map};
 ghost use Rattle.disk_trait.specs.Image.{Image};
-ghost use Rattle.entry_model.specs.Entries.{filled};
+ghost use Rattle.state_model.specs.Logs.{filled_by};
 ghost use Rattle.extent_model.specs.Extents.{AreLaid};
 ghost use Rattle.extent_model.specs.Gaps.{largest_gap};
 ghost use Rattle.manifest_model.specs.Laws.{IsVersion};
@@ -41,7 +41,7 @@ pub struct Numbers {
     pub settings: Settings,
 }
 
-// How many of so many pages are left once these tables have taken theirs.
+// How many of a given number of pages are left once these tables have taken theirs.
 fn left_beside(pages: u64, rows: &[Row]) -> u64
     ensures { result ≡ pages_left pages (map extent_of rows.now) }
 {
@@ -62,7 +62,7 @@ fn gap_beside(alloc: Global, version: &Version, outputs: &[Row]) -> Result<u64, 
     let extents = extents_of(alloc, version, outputs)?;
     match extents.gap(u64::MAX) {
         Err(NoGap { largest, .. }) => Ok(largest),
-        // no device has so many pages
+        // no device has that many pages
         Ok(_) => unreachable!(),
     }
 }
@@ -79,7 +79,7 @@ impl<F: RangeFilter> Store<F> {
     /// What it has, in numbers. No read; memory for the extents of all tables.
     pub fn numbers(&self) -> Result<Numbers, StoreError>
         ensures has { IfOk result (HasNumbers self.now) }
-        ensures of { (s : State) (image : Image) → ReadsAs F.spelling (filter_bytes_of F.spelling F.built_cutoff) self.now s image → s.kept ≡ [] → self.now.log.filled ≡ filled s.log
+        ensures of { (s : State) (image : Image) → ReadsAs F.spelling (filter_bytes_of F.spelling F.built_cutoff) self.now s image → s.kept ≡ [] → self.now.log.filled ≡ filled_by s.log
             → IfOk result (AreNumbersOf s) }
         ensures memory { IfErr result (λ why. why ≡ StoreError.Memory) }
     {

@@ -1,9 +1,10 @@
-//! A store that stands on a device is opened.
+//! A store that is on a device is opened.
 ghost use Rattle.std.specs.Prelude.{◌≡◌, ◌≤◌, ◌<◌, ◌+◌, ◌*◌, length, map, false, None, IsTrue, IfOk, IfErr, MatchResult};
 ghost use Rattle.std.specs.List.{AllByRecursion};
 ghost use Rattle.block_model.specs.Places.{FitsDevice};
 ghost use Rattle.disk_trait.specs.World.{Moves, ReadMoves};
 ghost use Rattle.entry_model.specs.Entries.{IsLogged, filled};
+ghost use Rattle.state_model.specs.Logs.{filled_by};
 ghost use Rattle.entry_model.specs.Newest.{newest_entries};
 ghost use Rattle.image_model.specs.Stands.{IsStateOf};
 ghost use Rattle.key_base.specs.Limits.{log_bytes, max_tables};
@@ -57,7 +58,8 @@ fn open_tables<F: RangeFilter, D: Disk>(
     Ok(tables)
 }
 
-// Whether a table may stand before another one: below level 0 its keys come before those of the other.
+// Whether a table may be before another one: below level 0 its keys come before those of the other. No table has a range yet,
+// whose end would come before them too.
 fn may_follow<F: RangeFilter>(before: &Table<F>, table: &Table<F>) -> bool
     ensures { result ≡ follows (opened_range before.now) (opened_range table.now) }
 {
@@ -106,7 +108,7 @@ fn open_version<F: RangeFilter, D: Disk>(
 }
 
 impl<F: RangeFilter> Store<F> {
-    /// Opens the store that stands on a device: what was written before is made to last; then come the manifest, the
+    /// Opens the store that is on a device: what was written before is made to last; then come the manifest, the
     /// index and the filter of each table, and the log.
     ///
     /// Seven reads at most and two for each table. Nothing is written.
@@ -134,7 +136,7 @@ impl<F: RangeFilter> Store<F> {
         ensures cause { IfErr result (IsOpenRefusal (D.world disk.old) (D.world disk.new)) }
         ensures running { IfOk result (λ store. store.stopped ≡ false) }
         ensures idle { IfOk result (λ store. store.job ≡ None) }
-        ensures log { (s : State) → IsTrue D.tells → IsStateOf F.spelling s (D.world disk.old).seen.held → IfOk result (λ store. store.log.filled ≡ filled s.log) }
+        ensures log { (s : State) → IsTrue D.tells → IsStateOf F.spelling s (D.world disk.old).seen.held → IfOk result (λ store. store.log.filled ≡ filled_by s.log) }
         ensures reads { (s : State) → IsTrue D.tells → IsStateOf F.spelling s (D.world disk.old).seen.held → (D.world disk.new).seen.reads ≤ (D.world disk.old).seen.reads + 7 + 2 * length s.tables }
         ensures moves { ReadMoves (7 + 2 * max_tables) (D.world disk.old) (D.world disk.new) }
     {

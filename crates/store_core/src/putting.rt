@@ -8,6 +8,7 @@ ghost use Rattle.key_base.specs.Limits.{log_bytes};
 ghost use Rattle.line_model.specs.Limits.{limit_of};
 ghost use Rattle.log_model.specs.Area.{start_of};
 ghost use Rattle.line_model.specs.Requests.{Del, Put};
+ghost use Rattle.range_model.specs.Sources.{Sets};
 ghost use Rattle.state_model.specs.Changes.{is_long, logged, written};
 ghost use Rattle.state_model.specs.State.{State};
 ghost use Rattle.store_core.specs.Answers.{AnswersRequest, IsTried, IsWriteFailure, IsWriteRefusal, MovesTo, WroteEntry, stopped_by, told_change};
@@ -27,7 +28,6 @@ use entry_list::Entry;
 use filter_api::RangeFilter;
 use gate_log::record_need;
 use key_base::MAX_LOGGED_VALUE_BYTES;
-use level_merge::jobs_are_followed;
 
 // Gives a buffer the bytes in which the record of an entry is built.
 fn lengthen_for(buffer: &mut Vec<u8>, entry: &Entry)
@@ -45,7 +45,7 @@ impl<F: RangeFilter> Store<F> {
     ///
     /// The memory of the entry is taken first; then, where its record does not fit the log area, the memory table is
     /// flushed; then the record is written and made to last. A value of over 65,536 bytes is not logged: the entries in
-    /// memory with this one over them are flushed, as one table, and the memory and the log are empty behind it. At `Ok` no
+    /// memory with this one over them are flushed, as one table, and the memory and the log are empty after it. At `Ok` no
     /// crash takes it back. No read.
     pub fn put<D: Disk>(&mut self, disk: &mut D, key: &[u8], value: &[u8]) -> Result<(), StoreError>
         ensures answered { (s : State) → IsTrue D.tells → self.old.stopped ≡ false → Represents F.spelling (filter_bytes_of F.spelling F.built_cutoff) self.old s (D.world disk.old)
@@ -106,7 +106,7 @@ impl<F: RangeFilter> Store<F> {
         requires sound { IsLogged (entry_of key.now (value_of value)) }
         requires running { self.old.stopped ≡ false }
         ensures wrote { (s : State) → IsTrue D.tells → Represents F.spelling (filter_bytes_of F.spelling F.built_cutoff) self.old s (D.world disk.old)
-            → WroteEntry F.spelling (filter_bytes_of F.spelling F.built_cutoff) s (written (filter_bytes_of F.spelling F.built_cutoff) s (entry_of key.now (value_of value.entry))) result self.new (D.world disk.old) (D.world disk.new) }
+            → WroteEntry F.spelling (filter_bytes_of F.spelling F.built_cutoff) s (written (filter_bytes_of F.spelling F.built_cutoff) s (Sets (entry_of key.now (value_of value.entry)))) result self.new (D.world disk.old) (D.world disk.new) }
         ensures refused { IfErr result (IsWriteRefusal false None (D.world disk.old) (D.world disk.new)) }
         ensures due { IfErr result (IsWriteDue (filter_bytes_of F.spelling F.built_cutoff) self.old (entry_of key.now (value_of value.entry)) (D.world disk.old) (D.world disk.new)) }
         ensures allowed { OnOk result (IsEntryAllowed (filter_bytes_of F.spelling F.built_cutoff) self.old (entry_of key.now (value_of value.entry))) }
@@ -125,14 +125,14 @@ impl<F: RangeFilter> Store<F> {
         self.append(disk, entry)
     }
 
-    // Writes an entry whose record fits the log area. It stands in memory once it lasts.
+    // Writes an entry whose record fits the log area. It is in memory once it lasts.
     fn append<D: Disk>(&mut self, disk: &mut D, entry: Entry) -> Result<(), StoreError>
         requires sound { IsLogged entry }
         requires running { self.old.stopped ≡ false }
         requires fits { self.old.log.filled + need entry ≤ log_bytes }
         requires spare { 1 ≤ self.old.memory.spare }
         ensures turns { (s : State) → IsTrue D.tells → Represents F.spelling (filter_bytes_of F.spelling F.built_cutoff) self.old s (D.world disk.old)
-            → MovesTo F.spelling (filter_bytes_of F.spelling F.built_cutoff) s (logged s entry) result self.new (D.world disk.old) (D.world disk.new) }
+            → MovesTo F.spelling (filter_bytes_of F.spelling F.built_cutoff) s (logged s (Sets entry)) result self.new (D.world disk.old) (D.world disk.new) }
         ensures stopped { self.new.stopped ≡ stopped_by result }
         ensures failure { IfErr result (IsWriteFailure (D.world disk.old) (D.world disk.new)) }
         ensures own { WriteMoves (start_of self.old.log.area + self.old.log.filled) (need entry) (D.world disk.old) (D.world disk.new) }
@@ -140,7 +140,7 @@ impl<F: RangeFilter> Store<F> {
         ensures moves { WriteMoves 0 (page_bytes * self.old.manifest.version.pages) (D.world disk.old) (D.world disk.new) }
     {
         // the law of merges: what is written elsewhere leaves the one that runs as it is
-        jobs_are_followed();
+        level_merge::laws::jobs_are_followed();
         lengthen_for(&mut self.buffer, &entry);
         match self
             .log

@@ -15,8 +15,7 @@ ghost use Rattle.store_core.specs.Represents.{Represents};
 ghost use Rattle.store_core.specs.Resetting.{IsResetRefusal, MayReset, Resets, bad_pages, reset_by};
 ghost use Rattle.table_model.specs.Tables.{filter_bytes_of};
 
-use crate::compacting::stops_store;
-use crate::error::StoreError;
+use crate::error::{StoreError, stops_store};
 use crate::formatting::check_settings;
 use crate::store::Store;
 use byte_fields::Row;
@@ -60,9 +59,9 @@ fn numbered_version(
 }
 
 impl<F: RangeFilter> Store<F> {
-    /// New tables get these settings. Tables that stand keep those that they were built with until they are merged.
+    /// New tables get these settings. Tables that are there keep those that they were built with until they are merged.
     ///
-    /// A version with the new settings is installed, also where they are those that stand. A merge that runs is dropped where it
+    /// A version with the new settings is installed, also where they are the present ones. A merge that runs is dropped where it
     /// comes to that install; refused before, by settings out of range, at the last epoch or out of memory, it goes on. No
     /// read, and memory for one version and its body, which is taken before anything is written.
     pub fn set_settings<D: Disk>(
@@ -86,7 +85,7 @@ impl<F: RangeFilter> Store<F> {
         self.install_numbers(disk, settings, pages)
     }
 
-    /// The store has so many pages: as many as now or more, and at most 16,777,216. It cannot be taken back.
+    /// The store has a given number of pages: as many as now or more, and at most 16,777,216. It cannot be taken back.
     ///
     /// A version with that number is installed, also where it is the present one; the length of the device is not looked at. A
     /// merge that runs is dropped where it comes to that install; refused before, by a number out of range, at the last epoch or

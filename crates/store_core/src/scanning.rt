@@ -29,10 +29,10 @@ use crate::store::Store;
 use disk_trait::Disk;
 use filter_api::RangeFilter;
 use key_base::compare;
-use merge_rows::{MergeRows, merged_laws, standing_tables_are_merged};
+use merge_rows::MergeRows;
 use std::alloc::{AllocError, Global};
 use std::marker::Model;
-use table_file::{Table, TableFault, Tables, standing_tables_are_read};
+use table_file::{Table, TableFault, Tables};
 
 /// Pairs of a store, by rising keys. It borrows the store, which so stays as it is.
 ///
@@ -40,7 +40,7 @@ use table_file::{Table, TableFault, Tables, standing_tables_are_read};
 #[derive(Drop)]
 pub struct Scan<'s, F: RangeFilter> {
     tables: &'s Tables<F>,
-    // tombstones are rows too, so that no row is read behind the next pair
+    // tombstones are rows too, so that no row is read after the next pair
     rows: MergeRows<'s>,
     high: Option<Vec<u8>>,
     // how many pairs more at most
@@ -115,7 +115,7 @@ fn is_before(bound: &[u8], key: &[u8]) -> bool
     bound[0] < key[0]
 }
 
-// How many pairs more at most, behind a step that gave one or not.
+// How many pairs more at most, after a step that gave one or not.
 fn left_behind(found: bool, left: Option<u64>) -> Option<u64>
     ensures { result ≡ left_behind found left }
 {
@@ -162,7 +162,7 @@ fn next_pair<F: RangeFilter, D: Disk>(
     ensures moves { OnlyReads (D.world disk.old) (D.world disk.new) }
 {
     // the law of the layer below: the keys of rows rise
-    merged_laws();
+    merge_rows::laws::merged_laws();
     while rows.advance(disk, tables)? {
         match rows.entry() {
             Some((key, value)) => {
@@ -210,9 +210,9 @@ impl<F: RangeFilter> Store<F> {
         self.scan(low, high, None)
     }
 
-    /// The first pairs between two bounds, both included: so many at most.
+    /// The first pairs between two bounds, both included: that many at most.
     ///
-    /// It takes all the memory of the scan, and reads nothing. Once so many pairs were given nothing more is read.
+    /// It takes all the memory of the scan, and reads nothing. Once a given number of pairs were given nothing more is read.
     pub fn range(&self, low: &[u8], high: &[u8], most: u64) -> Result<Scan<'_, F>, StoreError>
         ensures shows { (s : State) (image : Image) → ReadsAs F.spelling (filter_bytes_of F.spelling F.built_cutoff) self.now s image
             → IfOk result (λ scan. StillComes F.spelling scan (slice (state_map s) low.now (Some high.now) most) image) }
@@ -228,7 +228,7 @@ impl<F: RangeFilter> Store<F> {
         self.scan(low, Some(high), Some(most))
     }
 
-    // The pairs between two bounds, so many at most where a number is given.
+    // The pairs between two bounds, that many at most where a number is given.
     fn scan(
         &self,
         low: &[u8],
@@ -250,10 +250,10 @@ impl<F: RangeFilter> Store<F> {
             return Err(StoreError::Stopped);
         }
         check_bounds(low, high)?;
-        // the laws of the layers below, of rows and of tables that stand
-        merged_laws();
-        standing_tables_are_merged();
-        standing_tables_are_read();
+        // the laws of the layers below, of rows and of tables on the device
+        merge_rows::laws::merged_laws();
+        merge_rows::laws::standing_tables_are_merged();
+        table_file::laws::standing_tables_are_read();
         let alloc = *self.buffer.allocator();
         let which = numbers_of(alloc, self.tables.as_slice(), low, high)?;
         let rows = MergeRows::new(which, &self.tables, Some(&self.memory), low, false)?;
@@ -288,7 +288,7 @@ impl<'s, F: RangeFilter> Scan<'s, F> {
 
     /// Goes on to the next pair, and answers whether there is one: it is then at hand. No memory.
     ///
-    /// At `Err` it stands where it stood, and the next step tries again. Where so many pairs were given as were asked for,
+    /// At `Err` it is where it stood, and the next step tries again. Where a given number of pairs were given as were asked for,
     /// nothing is read.
     //
     // It goes into its callers, as the merge's step does: a scan of a hundred pairs takes a hundred steps.
@@ -325,8 +325,8 @@ impl<'s, F: RangeFilter> Scan<'s, F> {
         if self.has_ended() {
             return Ok(false);
         }
-        // the law of the tables below: no read of a block of one that stands is damage
-        standing_tables_are_read();
+        // the law of the tables below: no read of a block of one that is there is damage
+        table_file::laws::standing_tables_are_read();
         let found = next_pair(&mut self.rows, disk, self.tables, &self.high)?;
         let left = left_behind(found, self.left);
         self.found = found;
@@ -360,7 +360,7 @@ impl<'s, F: RangeFilter> Scan<'s, F> {
         }
     }
 
-    // Whether so many pairs were given as were asked for, or no more are there.
+    // Whether a given number of pairs were given as were asked for, or no more are there.
     fn has_ended(&self) -> bool
         ensures { result ≡ is_ended self.now.left }
     {

@@ -22,7 +22,7 @@ pub struct Store<F: RangeFilter> {
     pub(crate) job: Option<Job<'static, F>>,
     pub(crate) log: Log,
     pub(crate) memory: MemTable,
-    // room for the largest block, in which records are built too; so many bytes as the largest one had that stood there
+    // room for the largest block, in which records are built too; a given number of bytes as the largest one had that stood there
     pub(crate) buffer: Vec<u8>,
     // those that were read last by gets
     pub(crate) blocks: CachedBlocks,

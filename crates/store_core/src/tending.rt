@@ -26,9 +26,7 @@ use crate::flushing::extents_of;
 use crate::store::Store;
 use disk_trait::{Disk, Op};
 use filter_api::RangeFilter;
-use level_merge::{
-    Job, JobFault, Sliced, choose, jobs_are_followed, merges_begin, standing_tables_agree,
-};
+use level_merge::{Job, JobFault, Sliced, choose};
 use manifest::Version;
 use std::alloc::Global;
 use table_file::Tables;
@@ -40,7 +38,7 @@ pub enum Tended {
     Worked,
     /// No merge runs, and nothing is to be merged.
     Idle,
-    /// An output needs so many pages, and the largest gap has fewer. The merge was dropped.
+    /// An output needs a given number of pages, and the largest gap has fewer. The merge was dropped.
     Full { need: u64, gap: u64 },
 }
 
@@ -62,8 +60,8 @@ fn next_job<F: RangeFilter>(
 }
 
 impl<F: RangeFilter> Store<F> {
-    /// One merge slice of the merge that runs, or of a new one where some tables are to be merged: it reads at most so many blocks,
-    /// one or more, and on any device at most twice as many, and writes at most one output and the version in which the outputs stand.
+    /// One merge slice of the merge that runs, or of a new one where some tables are to be merged: it reads at most a given number of blocks,
+    /// one or more, and on any device at most twice as many, and writes at most one output and the version in which the outputs are there.
     ///
     /// The map stays as it is. At `Full` and at each error the merge is dropped, and its outputs give their pages back.
     pub fn tend<D: Disk>(&mut self, disk: &mut D, blocks: u32) -> Result<Tended, StoreError>
@@ -110,8 +108,8 @@ impl<F: RangeFilter> Store<F> {
             return Ok(running);
         }
         // the laws of merges: tables in memory are those of the state, and a merge begins as its job does
-        standing_tables_agree();
-        merges_begin();
+        level_merge::laws::standing_tables_agree();
+        level_merge::laws::merges_begin();
         next_job(*self.buffer.allocator(), &self.version, &self.tables)
     }
 
@@ -197,8 +195,8 @@ impl<F: RangeFilter> Store<F> {
         ensures same { IsSameMerge job.old job.new }
         ensures moves { SomeMoves (page_bytes * self.now.manifest.version.pages) (D.world disk.old) (D.world disk.new) }
     {
-        // the law of merges: what stands of the one that runs stands on each image
-        jobs_are_followed();
+        // the law of merges: what there is of the one that runs is on each image
+        level_merge::laws::jobs_are_followed();
         let alloc = *self.buffer.allocator();
         let mut extents = extents_of(alloc, &self.version, job.outputs())?;
         job.slice(disk, &self.tables, &mut extents, blocks)

@@ -8,7 +8,7 @@ use Rattle.entry_model.specs.Newest.{lookup}
 use Rattle.filter_api.specs.Spellings.{Spelling}
 use Rattle.block_model.specs.Laws.{joined}
 use Rattle.map_model.specs.SortedMap.{Bytes}
-use Rattle.state_model.specs.View.{first_found}
+use Rattle.state_model.specs.WithoutRanges.{first_found}
 use Rattle.store_search.specs.Searching.{entries_by_table}
 use Rattle.store_search.specs.TablesAgree.{TableAgrees, TablesAgree}
 use Rattle.table_file.specs.Opened.{Opened}

@@ -14,7 +14,7 @@ use Rattle.entry_model.specs.Newest.{lookup}
 use Rattle.filter_api.specs.Spellings.{Spelling}
 use Rattle.map_model.specs.SortedMap.{Bytes}
 use Rattle.state_model.specs.Bounds.{searched, unless_found}
-use Rattle.state_model.specs.View.{first_found}
+use Rattle.state_model.specs.WithoutRanges.{first_found}
 use Rattle.store_search.specs.Caching.{AreNumbered, AreSame, BlockAgrees, CacheAgrees, Cached, LeavesKept, SaysOf, cache_number, past_cache, reads_for, said_by, unkept, unkept_named}
 use Rattle.store_search.specs.Searching.{IsBlockIn, IsFoundAt, IsReadIn, IsSpotIn, MayKeepRead, entries_by_table, said_in}
 use Rattle.store_search.specs.TablesAgree.{TableAgrees, TablesAgree}

@@ -23,11 +23,11 @@ none_cached = record { kept = []; first = 0 }
 abbrev pub past_cache : ℕ
 past_cache = 2 ^ 64 - 1
 
--- the number of a table behind which so many stand: numbers go on from that of the last table, until they run out
+-- the number of a table after which that many are there: numbers go on from that of the last table, until they run out
 abbrev pub cache_number : ℕ → ℕ → ℕ
 cache_number first behind = min (first + behind) past_cache
 
--- so many tables are given numbers anew
+-- a given number of tables are given numbers anew
 abbrev pub renumbered : Cached → ℕ → Cached
 renumbered blocks tables = record blocks { first = cache_number blocks.first tables }
 
@@ -52,7 +52,7 @@ pub record LeavesKept (old new : Cached) : Type 0 where
 abbrev pub AreSound : List KeptBlock → Type 0
 AreSound kept = (place : BlockPlace) (bytes : Bytes) → kept_of place kept ≡ Some bytes → block_fault bytes ≡ None
 
--- each was kept under a number that was given: one below that of the next table, where there are so many
+-- each was kept under a number that was given: one below that of the next table, where there are that many
 abbrev pub AreNumbered : Cached → ℕ → Type 0
 AreNumbered blocks tables = (place : BlockPlace) (bytes : Bytes) → kept_of place blocks.kept ≡ Some bytes → place.0 < cache_number blocks.first tables
 

@@ -52,7 +52,7 @@ abbrev pub IsSpotIn : Spot → Bytes → Type 0
 IsSpotIn (spot.InBuffer size) buffer = IsBlockIn size buffer
 IsSpotIn (spot.InCache number block) buffer = Unit {0}
 
--- a block that was read into a buffer breaks no rule, is not kept, and its table is one of so many, if that has a number
+-- a block that was read into a buffer breaks no rule, is not kept, and its table is one of that many, if that has a number
 pub record IsReadIn (read : BlockRead) (buffer : Bytes) (blocks : Cached) (tables : ℕ) : Type 0 where
   pub block : IsBlockIn read.size buffer
   pub given : read.number < past_cache → read.number < cache_number blocks.first tables

@@ -13,7 +13,7 @@ use std::marker::Model;
 
 /// The blocks that were kept last, under the numbers of their tables.
 ///
-/// A number is that of the last table and how many tables stand behind: a table that is put before the others gets one that no
+/// A number is that of the last table and how many tables are after: a table that is put before the others gets one that no
 /// other had, and they keep theirs. Where tables go or come elsewhere, all are given numbers anew. So pages that are used again
 /// never show a block of the table that had them before.
 #[derive(Drop)]
@@ -42,7 +42,7 @@ impl CachedBlocks {
         Ok(CachedBlocks { cache, first: 0 })
     }
 
-    /// The number of a table behind which so many stand. Once numbers have run out it is that of all tables that are read past
+    /// The number of a table after which that many are there. Once numbers have run out it is that of all tables that are read past
     /// the cache.
     pub fn number(&self, behind: usize) -> u64
         ensures { result ≡ cache_number self.now.first behind }
@@ -50,7 +50,7 @@ impl CachedBlocks {
         self.first.saturating_add(behind as u64)
     }
 
-    /// Gives numbers anew, where there are so many tables: none that was given is one of theirs.
+    /// Gives numbers anew, where there are a given number of tables: none that was given is one of theirs.
     pub fn renumber(&mut self, tables: usize)
         ensures { self.new ≡ renumbered self.old tables }
     {

@@ -8,7 +8,7 @@ ghost use Rattle.entry_model.specs.Entries.{Entry};
 ghost use Rattle.entry_model.specs.Newest.{lookup};
 ghost use Rattle.map_model.specs.SortedMap.{Bytes};
 ghost use Rattle.state_model.specs.Bounds.{searched};
-ghost use Rattle.state_model.specs.View.{first_found};
+ghost use Rattle.state_model.specs.WithoutRanges.{first_found};
 ghost use Rattle.store_search.specs.Caching.{AreNumbered, AreSame, BlockAgrees, CacheAgrees, IsFirst, LeavesKept, SaysOf, past_cache, reads_for, said_by, unkept, unkept_named};
 ghost use Rattle.store_search.specs.Searching.{IsBlockFault, IsBlockIn, IsFaultIn, IsFoundAt, IsLookFault, IsReadIn, IsSpotIn, MayKeepRead, entries_by_table, said_in};
 ghost use Rattle.store_search.specs.Looking.{AreReadSound, IsReadSound, looked_table, looked_tables};
@@ -22,9 +22,9 @@ use byte_fields::lengthen;
 use disk_trait::Disk;
 use filter_api::RangeFilter;
 use std::alloc::Global;
-use table_file::{Table, TableFault, standing_tables_are_read};
+use table_file::{Table, TableFault};
 
-/// Where an entry was found in a table: in the block that the first so many bytes of the buffer are, or in a kept one.
+/// Where an entry was found in a table: in the block that the first n bytes of the buffer are, or in a kept one.
 #[derive(Clone, Copy)]
 pub enum Spot {
     InBuffer(usize),
@@ -168,7 +168,7 @@ fn look_in_all<F: RangeFilter, D: Disk>(
         });
     };
     // the law of the bound: a block is searched exactly where the state says that its table is
-    standing_tables_are_read();
+    table_file::laws::standing_tables_are_read();
     let number = blocks.number(older.len());
     let here = look_in(table, number, blocks, disk, key, buffer)?;
     if here.found.is_some() {
@@ -227,7 +227,7 @@ pub fn look_and_keep<F: RangeFilter, D: Disk>(
     ensures cause { IfErr result (IsLookFault (D.world disk.old) (D.world disk.new)) }
 {
     // no more are read than the state says
-    standing_tables_are_read();
+    table_file::laws::standing_tables_are_read();
     let looked = look_in_all(tables, blocks, disk, key, buffer)?;
     keep_read(alloc, blocks, buffer, looked.read);
     Ok(looked.found)

@@ -13,6 +13,8 @@ mod caching;
 #[cfg(test)]
 mod changes;
 #[cfg(test)]
+mod deleted_ranges;
+#[cfg(test)]
 mod limits;
 #[cfg(test)]
 mod scans;

@@ -128,6 +128,7 @@ fn small_table(alloc: Global, n: u16) -> Result<Table, AllocError> {
         blocks: 1,
         settings: BASE,
         entries,
+        ranges: Vec::new(alloc),
     })
 }
 

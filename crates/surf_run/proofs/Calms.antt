@@ -9,6 +9,12 @@ use Rattle.disk_trait.proofs.Moments.{in_call, now_at}
 use Rattle.line_model.specs.Limits.{key_limit, limit_of}
 use Rattle.line_model.specs.Replies.{Bye, Damaged, Device, LastEpoch, LongKey, LongValue, ManyTables, Reply, got, text_of}
 use Rattle.line_model.specs.Requests.{Bad, Get, Quit as AskQuit, Request}
+use Rattle.lines_in.specs.Causes.{EndCause, NoFall, SayFailed, WritesWithin}
+use Rattle.lines_in.specs.Saying.{Says, SaysBehind, end_by}
+use Rattle.lines_in.specs.declared.line_end.LineEnd.{LineEnd}
+use Rattle.lines_in.specs.declared.line_end.LineEnd.TheVariants.{End, Next, Quit}
+use Rattle.lines_in.proofs.EndCauses.{line_read, line_say, lines_on, no_fall_none, rose_since, rose_then}
+use Rattle.lines_in.proofs.Footprint.{within_none}
 use Rattle.map_model.specs.SortedMap.{Bytes, get}
 use Rattle.outside.specs.Streams.{SaidByNow, SayMoves}
 use Rattle.state_model.specs.Bounds.{get_bound}
@@ -26,16 +32,12 @@ use Rattle.store_core.specs.declared.error.Limit.TheVariants as limit
 use Rattle.store_core.specs.declared.error.StoreError.{StoreError}
 use Rattle.store_core.specs.declared.error.StoreError.TheVariants as error
 use Rattle.surf_run.specs.Answering.{AnswersLine, EndsLine, LineAnswer, RunsOn}
-use Rattle.surf_run.specs.Causes.{EndCause, IsMetBy, LineShows, NoFall, SayFailed, SaysDamage, WritesWithin}
+use Rattle.surf_run.specs.Causes.{IsMetBy, LineShows, SaysDamage}
 use Rattle.surf_run.specs.Crash.{EachImageStandsFor, HasMap}
 use Rattle.surf_run.specs.Dialogue.{IsBounded, reply_bound}
 use Rattle.surf_run.specs.Kind.{Kind}
 use Rattle.surf_run.specs.Refusals.{end_of_refusal}
-use Rattle.surf_run.specs.Saying.{Says, SaysBehind, end_by}
-use Rattle.surf_run.specs.declared.line_end.LineEnd.{LineEnd}
-use Rattle.surf_run.specs.declared.line_end.LineEnd.TheVariants.{End, Next, Quit}
-use Rattle.surf_run.proofs.EndCauses.{line_read, line_say, lines_on, no_fall_none, rose_since, rose_then}
-use Rattle.surf_run.proofs.Footprint.{pages_none, pages_say, pages_still, within_none}
+use Rattle.surf_run.proofs.Footprint.{pages_none, pages_say, pages_still}
 use Rattle.surf_run.proofs.Moments.{ends_device, ends_next, ends_quit, line_answer, map_of_state, stands_still, tied_stands, tied_still}
 use Rattle.table_file.specs.Opened.{Opened}
 use Rattle.table_model.specs.Tables.{FilterBytes}
@@ -126,7 +128,7 @@ status_of Next = 0
 status_of Quit = 0
 status_of (End status) = status
 
--- damage that was said behind bytes that waited is that of a block which was read
+-- damage that was said after bytes that waited is that of a block which was read
 pub behind_damage : (tables : List Opened) (request : Request) (why : StoreError) (result : LineEnd) (held : Image) (waits : Bytes) (mid b : World) → ((d : Damage) → why ≡ error.Damaged d → IsMetBy tables request held d)
     → mid.seen.held ≡ held → b.seen ≡ mid.seen → ((reply : Reply) → told why ≡ Some reply → SaysBehind waits (end_by reply) reply result mid b) → end_of_refusal why ≡ End 5 → result ≡ End 5 → SaysDamage tables request b
 behind_damage tables request (error.Damaged damage) result held waits mid b shown same seen says ends five = elim (says (Damaged damage) refl).1 [

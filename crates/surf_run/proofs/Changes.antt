@@ -7,6 +7,12 @@ use Rattle.disk_trait.specs.World.{Image, Meanwhile, Streams, World, WriteMoves}
 use Rattle.disk_trait.proofs.Moments.{meanwhile_weaker, now_at}
 use Rattle.line_model.specs.Replies.{Device, Done, Full, LastEpoch, LongKey, LongValue, ManyTables, Memory, Reply, text_of}
 use Rattle.line_model.specs.Requests.{Request}
+use Rattle.lines_in.specs.Causes.{DiskFailed, EndCause, NoFall, SayFailed, WritesWithin}
+use Rattle.lines_in.specs.Saying.{Says, end_by}
+use Rattle.lines_in.specs.declared.line_end.LineEnd.{LineEnd}
+use Rattle.lines_in.specs.declared.line_end.LineEnd.TheVariants.{End, Next}
+use Rattle.lines_in.proofs.EndCauses.{disk_then, line_say, line_write, lines_on, no_fall_say, rose_since}
+use Rattle.lines_in.proofs.Footprint.{within_write}
 use Rattle.outside.specs.Streams.{SaidByNow, SayMoves}
 use Rattle.state_model.specs.Script.{Onward, turn_of}
 use Rattle.state_model.specs.State.{State}
@@ -19,16 +25,12 @@ use Rattle.store_core.specs.declared.error.Limit.TheVariants as limit
 use Rattle.store_core.specs.declared.error.StoreError.{StoreError}
 use Rattle.store_core.specs.declared.error.StoreError.TheVariants as error
 use Rattle.surf_run.specs.Answering.{AnswersLine, EndsLine, RunsOn, SaysOnward, Whole}
-use Rattle.surf_run.specs.Causes.{DiskFailed, EndCause, LineShows, NoFall, SayFailed, WritesWithin}
+use Rattle.surf_run.specs.Causes.{LineShows}
 use Rattle.surf_run.specs.Crash.{HasMap, HasMapAfter, HasOldOrNewMap}
 use Rattle.surf_run.specs.Dialogue.{IsBounded, reply_bound}
 use Rattle.surf_run.specs.Kind.{Kind}
 use Rattle.surf_run.specs.Refusals.{end_of_change}
-use Rattle.surf_run.specs.Saying.{Says, end_by}
-use Rattle.surf_run.specs.declared.line_end.LineEnd.{LineEnd}
-use Rattle.surf_run.specs.declared.line_end.LineEnd.TheVariants.{End, Next}
-use Rattle.surf_run.proofs.EndCauses.{disk_then, line_say, line_write, lines_on, no_fall_say, rose_since}
-use Rattle.surf_run.proofs.Footprint.{pages_say, pages_write, within_write}
+use Rattle.surf_run.proofs.Footprint.{pages_say, pages_write}
 use Rattle.surf_run.proofs.Moments.{ends_device, ends_next, line_answer, map_of_state, tied_pages, tied_stands, tied_still}
 use Rattle.surf_run.proofs.OneMap.{wanted_or_answered}
 
@@ -117,7 +119,7 @@ module _ {T : Type 0} (kind : Kind) (s : State) (request : Request) (changed : R
   abbrev OldOrAfter : Image → Type 0
   OldOrAfter image = HasMap kind s image ⊎ HasMapAfter kind s request answered.reply answered.after image
 
-  -- meanwhile each image has the map before or the one behind the reply: for want of memory it is the one before
+  -- meanwhile each image has the map before or the one after the reply: for lack of memory it is the one before
   kept_or_made : turn_of answered.reply ≡ Onward → Meanwhile OldOrAfter a mid
   kept_or_made on = elim (wanted_or_answered (HasCause a mid) kind.filter_bytes s request answered.reply answered.after answered.step on) [
     | inl memory ↦

@@ -1,5 +1,5 @@
 -- How a check ends, and that it changes nothing.
-use Rattle.std.proofs.Common.{◌≡◌, ◌≢◌, ◌⊎◌, ◌∙◌, ◌++◌, ◌+◌, ◌-◌, ◌^◌, ◌≤◌, ◌<◌, [], ◌∷◌, inl, inr, refl, sym, ap, subst, arith, ℕ, Bool, List, length, min, append_assoc}
+use Rattle.std.proofs.Common.{◌≡◌, ◌≢◌, ◌⊎◌, ◌∙◌, ◌++◌, ◌+◌, ◌-◌, ◌^◌, ◌≤◌, ◌<◌, [], ◌∷◌, inl, inr, refl, sym, ap, subst, arith, ℕ, Bool, List, min, append_assoc}
 use Rattle.std.proofs.lemmas.Grind.{flat_map-append}
 use Rattle.std.proofs.lemmas.List.{append-nil, length-append}
 use Rattle.std.specs.Prelude.{IsTrue, MatchOption, None, Option, Some}
@@ -14,6 +14,9 @@ use Rattle.image_model.proofs.NoFindings.{no_finding_is_state}
 use Rattle.image_model.proofs.Told.{no_store_has_no_findings, one_list_of_findings}
 use Rattle.line_model.specs.Replies.{text_of}
 use Rattle.line_model.specs.Replies as replies
+use Rattle.lines_in.specs.Causes.{IsServing, NoFall, SayFailed}
+use Rattle.lines_in.specs.Unserved.{LastLine}
+use Rattle.lines_in.proofs.EndCauses.{line_read, no_fall_none, no_fall_on, no_fall_say, rose_since, rose_then}
 use Rattle.manifest_model.specs.Slots.{IsNoStore}
 use Rattle.map_model.specs.SortedMap.{Bytes}
 use Rattle.outside.specs.Streams.{SayMoves, SaysPrefix}
@@ -26,13 +29,10 @@ use Rattle.store_check.specs.declared.error.CheckError.{CheckError}
 use Rattle.store_check.specs.declared.error.CheckError.TheVariants as error
 use Rattle.store_check.specs.declared.summary.Summary.{Summary}
 use Rattle.store_check.proofs.Told.{left_is_told}
-use Rattle.surf_run.specs.Causes.{IsServing, NoFall, SayFailed}
 use Rattle.surf_run.specs.Checks.{AreFound, ChangesNothing, CheckEnds, CheckedSoFar, HasFindings, HasState, IsCheckText, IsChecking, IsCutOff, clean_text, counted, cut_off_status, cut_off_text, finding_text, findings_text, found_text}
 use Rattle.surf_run.specs.Loads.{IsLoading}
 use Rattle.surf_run.specs.Open.{no_store_text}
 use Rattle.surf_run.specs.Resetting.{IsResetting}
-use Rattle.surf_run.specs.Unserved.{LastLine}
-use Rattle.surf_run.proofs.EndCauses.{line_read, no_fall_none, no_fall_on, no_fall_say, rose_since, rose_then}
 use Rattle.table_file.specs.Faults.{filter_fault_of}
 use Rattle.table_model.specs.Damage.{IsOfBytes}
 

@@ -6,6 +6,11 @@ use Rattle.byte_fields.specs.declared.parts.Damage.{Damage}
 use Rattle.disk_trait.specs.World.{Image, Streams, World}
 use Rattle.line_model.specs.Replies.{Damaged, Device, Done, Full, LastEpoch, LongKey, LongValue, ManyTables, Memory, Reply}
 use Rattle.line_model.specs.Requests.{Compact}
+use Rattle.lines_in.specs.Causes.{LineMoves, SayFailed, WritesWithin}
+use Rattle.lines_in.specs.Saying.{Says, end_by}
+use Rattle.lines_in.specs.declared.line_end.LineEnd.{LineEnd}
+use Rattle.lines_in.specs.declared.line_end.LineEnd.TheVariants.{End}
+use Rattle.lines_in.proofs.EndCauses.{line_say, lines_on, no_fall_say}
 use Rattle.outside.specs.Streams.{SaidByNow, SayMoves}
 use Rattle.state_model.proofs.FaultsMet.{answer_plain, no_fault}
 use Rattle.state_model.specs.State.{State}
@@ -19,17 +24,13 @@ use Rattle.store_core.specs.declared.error.Limit.TheVariants as limit
 use Rattle.store_core.specs.declared.error.StoreError.{StoreError}
 use Rattle.store_core.specs.declared.error.StoreError.TheVariants as error
 use Rattle.surf_run.specs.Answering.{AnswersLine}
-use Rattle.surf_run.specs.Causes.{LineMoves, LineShows, SayFailed, SaysDamage, WritesWithin}
+use Rattle.surf_run.specs.Causes.{LineShows, SaysDamage}
 use Rattle.surf_run.specs.Kind.{Kind}
 use Rattle.surf_run.specs.Refusals.{end_of_change}
-use Rattle.surf_run.specs.Saying.{Says, end_by}
 use Rattle.store_core.specs.Compacting.{IsCompactRefusal}
 use Rattle.store_core.specs.Tending.{SomeMoves}
-use Rattle.surf_run.specs.declared.line_end.LineEnd.{LineEnd}
-use Rattle.surf_run.specs.declared.line_end.LineEnd.TheVariants.{End}
 use Rattle.surf_run.proofs.Calms.{says_damage}
 use Rattle.surf_run.proofs.Changes.{ChangeTold, change_cause, change_ends, change_runs, some_same}
-use Rattle.surf_run.proofs.EndCauses.{line_say, lines_on, no_fall_say}
 use Rattle.surf_run.proofs.Footprint.{pages_say}
 use Rattle.surf_run.proofs.Tends.{some_moves}
 use Rattle.table_file.specs.Opened.{Opened}

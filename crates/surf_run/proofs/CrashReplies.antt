@@ -43,7 +43,7 @@ no_m reply rest then whole goes (inl done) =
 no_m reply rest then whole goes (inr device) =
     let is = first_byte 100 109 (codes "evice" ++ 10 ∷ []) then (subst (λ (r : Bytes). GoesOnAs r (109 ∷ then)) (sym whole ∙ ap text_of device) goes) in omega (arith, is)
 
--- a map behind a reply that is not `ok` has no pair
+-- a map after a reply that is not `ok` has no pair
 pair_behind : (done : Bool) (map : Map) → done ≡ false → (97 ∷ [], 98 ∷ []) ∷ [] ≡ cond done map [] → ⊥
 pair_behind true map undone is = absurd (let e : true ≡ false = undone in cc)
 pair_behind false map undone is = let e : (97 ∷ [], 98 ∷ []) ∷ [] ≡ [] = is in cc

@@ -6,7 +6,7 @@ use Rattle.line_model.specs.Requests.{Bad, Compact, Count, Del, Estimate, Explai
 use Rattle.map_model.specs.SortedMap.{Bytes}
 use Rattle.state_model.specs.Causes.{Why}
 use Rattle.state_model.specs.PlayLaws.{AnyState, has_slice}
-use Rattle.state_model.specs.Script.{AsSaid, AtDevice, Between, Ending, EndsOr, EndsThere, Onward, Over, Script, ToLast, Turn, turn_of, turn_of_slice}
+use Rattle.state_model.specs.Script.{AsSaid, AtDevice, Between, Ending, EndsOr, ScriptEndsAt, Onward, Over, Script, ToLast, Turn, turn_of, turn_of_slice}
 use Rattle.state_model.specs.State.{State}
 use Rattle.state_model.specs.Steps.{Step, answers, damage_met, no_memory, read_failed, write_failed}
 use Rattle.state_model.specs.Tends.{Tend, Tended}
@@ -14,7 +14,7 @@ use Rattle.state_model.specs.Tends as tends
 use Rattle.surf_run.specs.Dialogue.{AnsweredLines, line_bound}
 use Rattle.table_model.specs.Tables.{FilterBytes}
 
--- by the reply or by the merge slice behind it this is the end, and so much stands as the reply has been said
+-- by the reply or by the merge slice after it this is the end, and so much holds as the reply has been said
 abbrev pub IsLast : (Why → Type 0) → FilterBytes → Request → Reply → State → Ending → Type 0 → Type 0
 IsLast C filter_bytes request reply after ending Holds =
     AsSaid (turn_of reply) Holds × EndsOr (turn_of reply) [] ending ((next : State) × Between C filter_bytes request after (Over ending) next)
@@ -63,7 +63,7 @@ module _ (C D : Why → Type 0) (filter_bytes : FilterBytes) (weaker : (why : Wh
   between_as Quit none = none
   between_as (Bad code) none = none
 
--- a merge slice behind a put or a delete, and none behind the others
+-- a merge slice after a put or a delete, and none after the others
 pub between_made : (C : Why → Type 0) (filter_bytes : FilterBytes) (request : Request) (s : State) (turn : Turn) (after : State) → has_slice request ≡ true
     → (tended : Tended) → Tend C filter_bytes s tended after → turn ≡ turn_of_slice tended → Between C filter_bytes request s turn after
 between_made C filter_bytes (Put key value) s turn after has tended made is = (tended, made, is)
@@ -131,7 +131,7 @@ ends_so Onward ending Slice slice = inr (refl, slice)
 ends_so (Over why) ending Slice end = inl (ap Over (sym end.1))
 
 pub ends_there : (C : Why → Type 0) (filter_bytes : FilterBytes) (line : Bytes) (reply : Reply) (after : State) (ending : Ending) (Holds : Type 0) → IsLast C filter_bytes (request_of line) reply after ending Holds
-    → EndsThere C filter_bytes line reply after ending
+    → ScriptEndsAt C filter_bytes line reply after ending
 ends_there C filter_bytes line reply after ending Holds last = ends_so (turn_of reply) ending _ last.1
 
 module _ (C : Why → Type 0) (filter_bytes : FilterBytes) (R : ℕ → State → Type 0) where

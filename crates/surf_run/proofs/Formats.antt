@@ -7,6 +7,9 @@ use Rattle.filter_api.specs.Spellings.{Spelling}
 use Rattle.filter_api.specs.declared.settings.Field.{Field}
 use Rattle.filter_api.specs.declared.settings.Settings.{Settings}
 use Rattle.image_model.specs.Stands.{IsStateOf}
+use Rattle.lines_in.specs.Causes.{SayFailed, StatusCause, SomeFailed}
+use Rattle.lines_in.specs.Unserved.{Untouched}
+use Rattle.lines_in.proofs.LastLines.{last_line, untouched, now_still}
 use Rattle.manifest.specs.NewManifest.{has_open}
 use Rattle.manifest_model.specs.Slots.{IsNoStore}
 use Rattle.outside.specs.Streams.{SaidByNow, SayMoves, SaysPrefix}
@@ -21,17 +24,13 @@ use Rattle.program_words.specs.NewStores.{IsStoreOf, first_bad_word}
 use Rattle.program_words.specs.WantedSettings.{first_bad_setting as first_bad_named}
 use Rattle.program_words.specs.declared.new_store.NewStore.{NewStore}
 use Rattle.program_words.specs.declared.new_store.Wanted.{Wanted}
-use Rattle.surf_run.specs.Causes.{SayFailed, StatusCause}
 use Rattle.surf_run.specs.FormatRefusals.{IsOfFormat, refused_status, refused_text}
 use Rattle.surf_run.specs.Formats.{Formatted, IsFormatText, formatted_text}
 use Rattle.surf_run.specs.Run.{FormatEnds}
-use Rattle.surf_run.specs.ServedOrNot.{SomeFailed}
-use Rattle.surf_run.specs.Unserved.{Untouched}
-use Rattle.surf_run.proofs.LastLines.{last_line, untouched}
-use Rattle.surf_run.proofs.Moments.{now_still, torn_none}
+use Rattle.surf_run.proofs.Moments.{torn_none}
 use Rattle.surf_run.proofs.NewNumbersSet.{none_bad}
 
--- what is so meanwhile of a call is so behind its last line too
+-- what is so meanwhile of a call is so after its last line too
 meanwhile_said : (P : Image → Type 0) (a m b : World) → SayMoves m b → Meanwhile P a m → Meanwhile P a b
 meanwhile_said P a m b says meanwhile = goes_on P Same a m b meanwhile says.time (λ was image left same. subst P (sym same) (now_at P a m meanwhile was left))
 

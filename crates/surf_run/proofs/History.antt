@@ -106,7 +106,7 @@ module _ (C : Why → Type 0) (kind : Kind) (start : State) where
         let size : n ≡ length w.beside.said + (n - length w.beside.said) = omega (arith, le) in
         ap (λ (k : ℕ). take k w'.beside.said) size ∙ ap (take (length w.beside.said + (n - length w.beside.said))) prefix.said ∙ take-append-add w.beside.said prefix.done (n - length w.beside.said)
 
-    -- what was said then goes on as the reply does, where all of it was said, or nothing is said behind it
+    -- what was said then goes on as the reply does, where all of it was said, or nothing is said after it
     goes_on : (k : ℕ) (then : Bytes) → (prefix.rest ≡ []) ⊎ (then ≡ []) → GoesOnAs (drop k prefix.done ++ prefix.rest) (drop k prefix.done ++ then)
     goes_on k then (inl all) = inl (then, ap (λ (l : Bytes). l ++ then) (sym (ap (λ (r : Bytes). drop k prefix.done ++ r) all ∙ append-nil (drop k prefix.done))))
     goes_on k then (inr none) = inr (prefix.rest, ap (λ (l : Bytes). l ++ prefix.rest) (sym (ap (λ (r : Bytes). drop k prefix.done ++ r) none ∙ append-nil (drop k prefix.done))))

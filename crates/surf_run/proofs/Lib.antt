@@ -21,12 +21,10 @@ pub mod Moments
 pub mod OneMap
 pub mod Openings
 pub mod Outcomes
-pub mod Pieces
 pub mod Progress
 pub mod Ranges
 pub mod NewNumbersSet
 pub mod Scans
 pub mod Slices
 pub mod Tends
-pub mod Texts
 pub mod Values

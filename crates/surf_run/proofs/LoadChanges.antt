@@ -1,4 +1,4 @@
--- How a step of a load is made: its change, and the merge slice behind it.
+-- How a step of a load is made: its change, and the merge slice after it.
 use Rattle.std.proofs.Common.{◌≡◌, ◌≢◌, ◌⊎◌, inl, inr, ◌≤◌, ◌+◌, ◌*◌, ◌++◌, ℕ, Bool, true, false, [], refl, sym, ap, ◌∙◌, subst, arith}
 use Rattle.std.specs.Prelude.{Option, Some, Result, Ok, Err, IsTrue}
 use Rattle.std.proofs.lemmas.List.{append-nil}
@@ -8,6 +8,12 @@ use Rattle.disk_trait.proofs.Moments.{now_at}
 use Rattle.entry_model.specs.Entries.{Entry}
 use Rattle.image_model.specs.Stands.{StandsForMap}
 use Rattle.line_model.specs.Replies.{Device, Done, Full, LastEpoch, LongKey, LongValue, ManyTables, Memory, Reply, text_of}
+use Rattle.lines_in.specs.Causes.{DiskFailed, LineMoves, SayFailed, WritesWithin}
+use Rattle.lines_in.specs.declared.line_end.LineEnd.{LineEnd}
+use Rattle.lines_in.specs.declared.line_end.LineEnd.TheVariants.{End, Next, Quit}
+use Rattle.lines_in.proofs.EndCauses.{cause_as, cause_since, disk_then, line_say, line_write, lines_on, no_fall_say, rose_since}
+use Rattle.lines_in.proofs.Footprint.{within_on, within_say, within_write}
+use Rattle.lines_in.proofs.LastLines.{last_line}
 use Rattle.map_model.specs.SortedMap.{Bytes, Map}
 use Rattle.outside.specs.During.{During}
 use Rattle.outside.specs.Streams.{SaidByNow, SayMoves, SaysPrefix}
@@ -20,13 +26,13 @@ use Rattle.state_model.specs.State.{State}
 use Rattle.state_model.specs.Steps.{Step, answer}
 use Rattle.state_model.specs.View.{state_map}
 use Rattle.store_core.specs.Answers as core
-use Rattle.store_core.specs.Answers.{HasCause, IsTried, IsWriteRefusal, stopped_by, stops, told, told_change}
+use Rattle.store_core.specs.Answers.{HasCause, IsWriteRefusal, stopped_by, stops, told, told_change}
 use Rattle.store_core.specs.StoreValue.{StoreValue}
 use Rattle.store_core.specs.Represents.{Represents}
 use Rattle.store_core.specs.declared.error.Limit.TheVariants as limit
 use Rattle.store_core.specs.declared.error.StoreError.{StoreError}
 use Rattle.store_core.specs.declared.error.StoreError.TheVariants as error
-use Rattle.surf_run.specs.Causes.{DiskFailed, LineMoves, MeetsUnsaid, SayFailed, SliceShows, WritesWithin}
+use Rattle.surf_run.specs.Causes.{MeetsUnsaid, SliceShows}
 use Rattle.surf_run.specs.Crash.{EachImageStandsFor, HasMap}
 use Rattle.surf_run.specs.Dialogue.{slice_blocks}
 use Rattle.surf_run.specs.Kind.{Kind}
@@ -34,13 +40,10 @@ use Rattle.surf_run.specs.Loading.{HasStep, IsAnswer, IsChanged, IsStepText, IsS
 use Rattle.surf_run.specs.Loads.{FailsAt, IsPassedOver, change_of, in_change, in_slice}
 use Rattle.surf_run.specs.Open.{IsOpening, opening_status, opening_text}
 use Rattle.surf_run.specs.Slices.{EndsSlice, MakesSlice, SliceMade}
-use Rattle.surf_run.specs.declared.line_end.LineEnd.{LineEnd}
-use Rattle.surf_run.specs.declared.line_end.LineEnd.TheVariants.{End, Next, Quit}
 use Rattle.surf_run.proofs.Changes.{some_same}
 use Rattle.surf_run.proofs.Dialogues.{between_made, step_as, tend_as}
-use Rattle.surf_run.proofs.EndCauses.{cause_as, cause_since, causes_later, causes_since, disk_then, line_say, line_write, lines_on, no_fall_say, rose_since}
-use Rattle.surf_run.proofs.Footprint.{pages_on, pages_say, pages_write, within_on, within_say, within_write}
-use Rattle.surf_run.proofs.LastLines.{last_line}
+use Rattle.surf_run.proofs.EndCauses.{causes_later, causes_since}
+use Rattle.surf_run.proofs.Footprint.{pages_on, pages_say, pages_write}
 use Rattle.surf_run.proofs.LoadSteps.{answer_makes, answer_stepped, refused_stays, step_slices}
 use Rattle.surf_run.proofs.Moments.{stands_still, tied_pages, tied_stands}
 use Rattle.surf_run.proofs.Openings.{not_six}
@@ -62,7 +65,7 @@ passed_reply error.NotAStore over = absurd cc
 passed_reply error.AlreadyAStore over = absurd cc
 passed_reply (error.BadSettings field) over = absurd cc
 
--- another one is want of memory, or a failed write
+-- another one is lack of memory, or a failed write
 abbrev pub IsOther : World → World → StoreError → Type 0
 IsOther a b why = (why ≡ error.Memory) ⊎ ((opening_status why ≡ 4) × (opening_text why ≡ text_of Device) × IsOpening why × DiskFailed a b × (told why ≡ Some Device))
 
@@ -214,7 +217,7 @@ module _ (kind : Kind) (tells tells_output : Bool) (step : Entry) (done : Bool) 
     map_at : state_map at ≡ stepped_map done (state_map s) step
     map_at = answer_makes (HasCause a mid) kind.filter_bytes s step by.ends.0 at by.ends.2 done by.ends.3
 
-    -- the map behind a step is that of its answer
+    -- the map after a step is that of its answer
     behind_step : (image : Image) → HasMap kind at image → HasStep kind s step image
     behind_step image has = inr (subst (λ (m : Map). StandsForMap kind.spelling m image) (map_at ∙ sym (answer_stepped (HasCause a mid) kind.filter_bytes s step done by.ends.0 at by.ends.2 by.ends.3)) has)
 

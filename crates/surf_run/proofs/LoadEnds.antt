@@ -9,6 +9,11 @@ use Rattle.entry_model.specs.Entries.{Entry, changed}
 use Rattle.image_model.specs.Stands.{IsStateOf}
 use Rattle.line_model.specs.Replies.{Done, Reply}
 use Rattle.line_model.specs.Requests.{Seek}
+use Rattle.lines_in.specs.Causes.{DiskFailed, IsServing, NoFall, SayFailed, StatusCause, WritesWithin, SomeFailed}
+use Rattle.lines_in.specs.Unserved.{Unserved}
+use Rattle.lines_in.proofs.EndCauses.{disk_then, end_causes, line_read, no_fall_none, no_fall_on, no_fall_say, rose_since}
+use Rattle.lines_in.proofs.Footprint.{within_none, within_on, within_say, within_still}
+use Rattle.lines_in.proofs.LastLines.{last_line}
 use Rattle.load_gen.specs.Summary.{Summary, summary_of, summary_text}
 use Rattle.map_model.specs.SortedMap.{Bytes, Map}
 use Rattle.merge_rows.specs.Reads.{OnlyReads}
@@ -30,19 +35,15 @@ use Rattle.store_core.specs.Scans.{IsScanShown}
 use Rattle.store_core.specs.Represents.{Represents}
 use Rattle.store_core.specs.declared.error.StoreError.{StoreError}
 use Rattle.store_core.specs.declared.error.StoreError.TheVariants as error
-use Rattle.surf_run.specs.Causes.{DiskFailed, IfDevice, IsServing, MeetsUnsaid, NoFall, RunMeetsDamage, SayFailed, ShowsSomeDamage, StatusCause, WritesWithin}
+use Rattle.surf_run.specs.Causes.{IfDevice, MeetsUnsaid, RunMeetsDamage, ShowsSomeDamage}
 use Rattle.surf_run.specs.Crash.{EachImageStandsFor, HasMap}
-use Rattle.surf_run.specs.ServedOrNot.{SomeFailed}
 use Rattle.surf_run.specs.Dialogue.{slice_blocks}
 use Rattle.surf_run.specs.Kind.{Kind}
 use Rattle.surf_run.specs.Loading.{HasStep, IsStepped, LoadInvariant, StepCause, StepEnds, stepped_map}
 use Rattle.surf_run.specs.Loads.{CrashOfLoad, FailsAt, HasFirstSteps, IsLoadText, IsLoading, LoadEnds, StepMade, StepsMade, change_of, step_behind}
 use Rattle.surf_run.specs.Loads as loads
 use Rattle.surf_run.specs.Open.{IsFreeText, IsOpening, OpenMoves, opening_status, opening_text}
-use Rattle.surf_run.specs.Unserved.{Unserved}
-use Rattle.surf_run.proofs.EndCauses.{causes_later, causes_since, disk_then, end_causes, line_read, no_fall_none, no_fall_on, no_fall_say, rose_since}
-use Rattle.surf_run.proofs.Footprint.{within_none, within_on, within_say, within_still}
-use Rattle.surf_run.proofs.LastLines.{last_line}
+use Rattle.surf_run.proofs.EndCauses.{causes_later, causes_since}
 use Rattle.surf_run.proofs.LoadSteps.{answer_stepped, fails_as, first_all, first_more, kept_more, loaded_as, step_made_as}
 use Rattle.surf_run.proofs.Moments.{map_of_image, map_of_state, stands_still, tied_still}
 use Rattle.surf_run.proofs.Openings.{not_six, not_three}
@@ -210,7 +211,7 @@ module _ (kind : Kind) (start : State) (seed n refused : ℕ) (store : StoreValu
       abbrev after : State
       after = ends.ends.1
 
-      -- for these causes, of the step behind
+      -- for these causes, of the step after
       made_to : (reply : Reply) → ends.ends.0 ≡ reply → StepMade (HasCause first b) kind.filter_bytes (step_behind seed n) reply far.now after
       made_to reply same =
           subst (λ (r : Reply). StepMade (HasCause first b) kind.filter_bytes (step_behind seed n) r far.now after) same

@@ -12,6 +12,7 @@ use Rattle.line_model.specs.Requests.{Del, Put}
 use Rattle.map_model.specs.SortedMap.{Bytes, Map, del, put}
 use Rattle.state_model.proofs.Lines.{lines_change}
 use Rattle.state_model.specs.Causes.{Why}
+use Rattle.range_model.specs.Sources.{Sets}
 use Rattle.state_model.specs.Changes.{written}
 use Rattle.state_model.specs.Laws.{map_behind}
 use Rattle.state_model.specs.PlayLaws.{has_slice}
@@ -33,7 +34,7 @@ value_slices : (key : Bytes) (value : Option Bytes) → has_slice (change_to key
 value_slices key (Some v) = refl
 value_slices key None = refl
 
--- a merge slice comes behind it
+-- a merge slice comes after it
 pub step_slices : (step : Entry) → has_slice (change_of step) ≡ true
 step_slices step = value_slices step.key step.value
 
@@ -66,14 +67,14 @@ unless_stays s None (Err refusal) other = refl
 stays_by : (C : Why → Type 0) (filter_bytes : FilterBytes) (s : State) (key : Bytes) (value : Option Bytes) (reply : Reply) (after : State) → Step C filter_bytes s (change_to key value) reply after
     → (reply ≡ Done → ⊥) → (reply ≡ Device → ⊥) → after ≡ s
 stays_by C filter_bytes s key (Some v) reply after d = elim d as (λ r new _. (r ≡ Done → ⊥) → (r ≡ Device → ⊥) → new ≡ s) [
-  | answers ↦ λ done device. unless_stays s (limit_of (Put key v)) (written filter_bytes s (put_entry key v)) done
+  | answers ↦ λ done device. unless_stays s (limit_of (Put key v)) (written filter_bytes s (Sets (put_entry key v))) done
   | no_memory within takes cause ↦ λ done device. refl
   | read_failed r within reads cause so ↦ λ done device. refl
   | damage_met damage r within reads cause so ↦ λ done device. refl
   | write_failed new within writes cause left same ↦ λ done device. absurd (device refl)
 ]
 stays_by C filter_bytes s key None reply after d = elim d as (λ r new _. (r ≡ Done → ⊥) → (r ≡ Device → ⊥) → new ≡ s) [
-  | answers ↦ λ done device. unless_stays s (limit_of (Del key)) (written filter_bytes s (del_entry key)) done
+  | answers ↦ λ done device. unless_stays s (limit_of (Del key)) (written filter_bytes s (Sets (del_entry key))) done
   | no_memory within takes cause ↦ λ done device. refl
   | read_failed r within reads cause so ↦ λ done device. refl
   | damage_met damage r within reads cause so ↦ λ done device. refl
@@ -120,7 +121,7 @@ answer_by C filter_bytes s key None done reply after d = elim d as (λ r new _. 
   | write_failed new within writes cause left same ↦ λ is. absurd (never_device done is)
 ]
 
--- so a crash leaves the map behind the step, and not another one
+-- so a crash leaves the map after the step, and not another one
 pub answer_stepped : (C : Why → Type 0) (filter_bytes : FilterBytes) (s : State) (step : Entry) (done : Bool) (reply : Reply) (after : State) → Step C filter_bytes s (change_of step) reply after → IsAnswer done reply
     → state_map (answer filter_bytes s (change_of step)).1 ≡ stepped_map done (state_map s) step
 answer_stepped C filter_bytes s step done reply after answered is =

@@ -1,14 +1,20 @@
 -- What a line leads to at each moment.
-use Rattle.std.proofs.Common.{◌≡◌, ◌⊎◌, inl, inr, ◌≤◌, ◌+◌, ◌*◌, ◌++◌, ℕ, [], length, length-append, refl, sym, ap, ◌∙◌, subst, arith}
+use Rattle.std.proofs.Common.{◌≡◌, ◌⊎◌, inl, inr, ◌≤◌, ◌+◌, ◌*◌, ◌++◌, ℕ, [], length, length-append, refl, ap, ◌∙◌, subst, arith}
 use Rattle.std.specs.Prelude.{None, false}
 use Rattle.block_model.specs.Pages.{page_bytes}
-use Rattle.disk_trait.specs.World.{Image, Meanwhile, Now, Passes, Same, Seen, Streams, Torn, World}
-use Rattle.disk_trait.proofs.Moments.{in_call, now_at}
+use Rattle.disk_trait.specs.World.{Image, Meanwhile, Passes, Same, Seen, Streams, Torn, World}
 use Rattle.filter_api.specs.Spellings.{Spelling}
 use Rattle.image_model.proofs.Frames.{ready_is_state}
 use Rattle.image_model.specs.Stands.{IsStateOf, StandsFor, as_shown}
 use Rattle.line_model.specs.Replies.{Bye, Device, Reply, text_of}
 use Rattle.line_model.specs.Requests.{Request}
+use Rattle.lines_in.specs.Causes.{WritesWithin}
+use Rattle.lines_in.specs.Saying.{Says}
+use Rattle.lines_in.specs.declared.line_end.LineEnd.{LineEnd}
+use Rattle.lines_in.specs.declared.line_end.LineEnd.TheVariants.{End, Next, Quit}
+use Rattle.lines_in.proofs.EndCauses.{no_fall_say}
+use Rattle.lines_in.proofs.Footprint.{within_on, within_say}
+use Rattle.lines_in.proofs.LastLines.{now_still}
 use Rattle.manifest.specs.Manifest.{other_place, place_of}
 use Rattle.map_model.specs.SortedMap.{Bytes}
 use Rattle.outside.specs.Streams.{SaidByNow, SayMoves, SaysPrefix}
@@ -21,27 +27,18 @@ use Rattle.store_core.specs.Answers.{HasCause}
 use Rattle.store_core.specs.StoreValue.{StoreValue}
 use Rattle.store_core.specs.Represents.{Represents, RepresentsOn}
 use Rattle.surf_run.specs.Answering.{EndsLine, InLine, LineAnswer}
-use Rattle.surf_run.specs.Causes.{WritesWithin}
 use Rattle.surf_run.specs.Crash.{EachImageStandsFor, HasMap, HasMapAfter, HasState}
 use Rattle.surf_run.specs.Dialogue.{IsBounded, reply_bound}
 use Rattle.surf_run.specs.Kind.{Kind}
-use Rattle.surf_run.specs.Saying.{Says}
-use Rattle.surf_run.specs.declared.line_end.LineEnd.{LineEnd}
-use Rattle.surf_run.specs.declared.line_end.LineEnd.TheVariants.{End, Next, Quit}
 use Rattle.surf_run.proofs.Dialogues.{step_as}
-use Rattle.surf_run.proofs.EndCauses.{causes_later, no_fall_say}
-use Rattle.surf_run.proofs.Footprint.{within_on, within_say}
+use Rattle.surf_run.proofs.EndCauses.{causes_later}
 use Rattle.table_model.specs.Tables.{FilterBytes}
 
--- ---- what stands on
+-- ---- what stays there
 
 -- where nothing can have been written, nothing was
 pub torn_none : (f g : Image) → Torn 0 0 f g → g ≡ f
 torn_none f g torn = λ i place. torn.after place (omega arith) i
-
--- what a call that writes nothing leaves
-pub now_still : (P : Image → Type 0) (a b : World) → Passes Same a b → Now P a → Now P b
-now_still P a b time here = now_at P a b (in_call P Same a b here time (λ was image left same. subst P (sym same) (here was left)))
 
 pub stands_still : (kind : Kind) (s : State) (a b : World) → Passes Same a b → EachImageStandsFor kind s a → EachImageStandsFor kind s b
 stands_still kind s a b time here = now_still (HasState kind s) a b time here
@@ -60,7 +57,7 @@ tied_still spelling filter_bytes store s a b time tied = record {
 shown : (s : State) → s.job ≡ None → s.kept ≡ [] → s ≡ as_shown s
 shown s no_job none_kept = λ i. record { settings = s.settings; pages = s.pages; epoch = s.epoch; log = s.log; tables = s.tables; job = no_job i; kept = none_kept i }
 
--- what a store is tied to stands on its device
+-- what a store is tied to is on its device
 pub tied_stands : (kind : Kind) (store : StoreValue) (s : State) (w : World) → store.manifest.slot ≤ 1 → Represents kind.spelling kind.filter_bytes store s w → EachImageStandsFor kind s w
 tied_stands kind store s w few tied image left =
     let m = store.manifest in

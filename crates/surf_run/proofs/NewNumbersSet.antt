@@ -12,6 +12,11 @@ use Rattle.filter_api.specs.declared.settings.Settings.{Settings}
 use Rattle.image_model.specs.Stands.{StandsFor}
 use Rattle.key_base.specs.Limits.{last_epoch, max_hash_bits, max_real_bits}
 use Rattle.line_model.specs.Replies.{LastEpoch, Reply, text_of}
+use Rattle.lines_in.specs.Causes.{DiskFailed, IsServing, NoFall, SayFailed, StatusCause, WritesWithin, SomeFailed}
+use Rattle.lines_in.specs.Unserved.{Untouched, Unserved}
+use Rattle.lines_in.proofs.EndCauses.{disk_then, no_fall_none, no_fall_say, rose_since}
+use Rattle.lines_in.proofs.Footprint.{within_on, within_say, within_still, within_write}
+use Rattle.lines_in.proofs.LastLines.{last_line, untouched}
 use Rattle.map_model.specs.SortedMap.{Bytes}
 use Rattle.outside.proofs.Crossing.{during_disk, during_say, during_then, during_weaker}
 use Rattle.outside.specs.During.{During}
@@ -24,19 +29,13 @@ use Rattle.store_core.specs.Resetting.{IsMade, IsResetRefusal, MayReset, Resets}
 use Rattle.store_core.specs.StoreValue.{StoreValue}
 use Rattle.store_core.specs.declared.error.StoreError.{StoreError}
 use Rattle.store_core.specs.declared.error.StoreError.TheVariants as error
-use Rattle.surf_run.specs.Causes.{DiskFailed, IsServing, NoFall, SayFailed, StatusCause, WritesWithin}
 use Rattle.surf_run.specs.Formats.{bad_settings_text}
 use Rattle.surf_run.specs.Kind.{Kind}
 use Rattle.surf_run.specs.Loads.{IsLoading}
 use Rattle.surf_run.specs.Open.{IsFreeText, IsOpeningText, OpenMoves, no_store_text}
 use Rattle.surf_run.specs.Resetting.{HasOldOrNewNumbers, IsOfReset, IsResetEnd, IsResetText, IsResetting, ResetEnds, bad_number, done_text, refusal_text, renumbered, reset_status}
-use Rattle.surf_run.specs.ServedOrNot.{SomeFailed}
-use Rattle.surf_run.specs.Unserved.{Untouched, Unserved}
 use Rattle.surf_run.specs.declared.new_numbers.NewNumbers.{NewNumbers}
 use Rattle.surf_run.specs.declared.new_numbers.NewNumbers.TheVariants as new
-use Rattle.surf_run.proofs.EndCauses.{disk_then, no_fall_none, no_fall_say, rose_since}
-use Rattle.surf_run.proofs.Footprint.{within_on, within_say, within_still, within_write}
-use Rattle.surf_run.proofs.LastLines.{last_line, untouched}
 use Rattle.surf_run.proofs.Moments.{stands_still, tied_pages, tied_stands}
 
 -- ---- the numbers

@@ -2,13 +2,14 @@
 use Rattle.std.proofs.Common.{◌≡◌, ◌≢◌, ◌⊎◌, inl, inr, ◌+◌, ℕ, List, [], ◌∷◌, ◌++◌, refl, sym, ap, ◌∙◌, subst, Bool, true, false, cond}
 use Rattle.std.specs.Option.{option_or}
 use Rattle.std.specs.Prelude.{Err, None, Ok, Option, Result, Some, ◌==◌, length, nat_le, nat_lt, take}
-use Rattle.entry_model.specs.Entries.{Entry, del_entry, gap, need, put_entry}
+use Rattle.entry_model.specs.Entries.{Entry, del_entry, put_entry}
 use Rattle.key_base.specs.Limits.{is_no_key_length, last_epoch, max_bound_bytes, max_tables, max_value_bytes}
 use Rattle.line_model.specs.Limits.{bound_limit, key_limit, limit_of, value_limit}
 use Rattle.line_model.specs.Replies.{Damaged, Device, Done, LongKey, LongValue, Memory, Pairs, Reply, text_of}
 use Rattle.line_model.specs.Requests.{Bad, Compact, Count, Del, Estimate, Explain, Flush, Get, Put, Quit, Range, Request, Seek, request_of}
 use Rattle.map_model.specs.Slices.{slice}
 use Rattle.map_model.specs.SortedMap.{Bytes, Map}
+use Rattle.range_model.specs.Sources.{Change, Sets, Source}
 use Rattle.state_model.proofs.AnyCause.{ever_steps, ever_tends}
 use Rattle.state_model.proofs.Lines.{lines_change}
 use Rattle.state_model.proofs.OfBytes.{lines_ask}
@@ -18,13 +19,14 @@ use Rattle.state_model.specs.Bounds.{admitted, blocks_read, estimate}
 use Rattle.state_model.specs.Causes.{Why}
 use Rattle.state_model.specs.Changes.{compact_placed, compacted_with, flush_placed, flushed, flushed_with, is_long, logged, logged_then, with_tables, written}
 use Rattle.state_model.specs.Laws.{map_behind}
+use Rattle.state_model.specs.Logs.{gap_after, need_of, recorded}
 use Rattle.state_model.specs.Merges.{NoRoom}
 use Rattle.state_model.specs.Script.{Between, Onward, Over, turn_of}
 use Rattle.state_model.specs.Sound.{IsSound}
 use Rattle.state_model.specs.SoundLaws.{Ever}
 use Rattle.state_model.specs.State.{State, without_job}
 use Rattle.state_model.specs.Steps.{Answer, Step, answer, answer_within, answers, damage_met, done_or_refused, left_by, no_memory, read_failed, said_before, unless_limit, write_failed}
-use Rattle.state_model.specs.View.{entries_of, memory, state_map}
+use Rattle.state_model.specs.View.{changes_of, in_memory, memory, state_map}
 use Rattle.surf_run.specs.Dialogue.{AnsweredLines}
 use Rattle.surf_run.specs.OneMap.{IsMapReply, IsRefusal, MapDialogue}
 use Rattle.table_model.specs.Tables.{FilterBytes, Table}
@@ -46,26 +48,26 @@ flush_refuses : (s : State) (made : Result (List Table) NoRoom) → Refuses (flu
 flush_refuses s (Ok made) = tables_refuse s (made ++ s.tables)
 flush_refuses s (Err refusal) = inl refl
 
-flushed_refuses : (filter_bytes : FilterBytes) (s : State) (entries : List Entry) → Refuses (flushed_with filter_bytes s entries)
-flushed_refuses filter_bytes s [] = tt
-flushed_refuses filter_bytes s (entry ∷ more) = either (nat_le max_tables (length s.tables)) _ _ (inl refl) (flush_refuses s _)
+flushed_refuses : (filter_bytes : FilterBytes) (s : State) (source : Source) (entries : List Entry) → Refuses (flushed_with filter_bytes s source entries)
+flushed_refuses filter_bytes s source [] = tt
+flushed_refuses filter_bytes s source (entry ∷ more) = either (nat_le max_tables (length s.tables)) _ _ (inl refl) (flush_refuses s _)
 
-logged_refuses : (entry : Entry) (made : Result State Reply) → Refuses made → Refuses (logged_then entry made)
-logged_refuses entry (Ok s) so = tt
-logged_refuses entry (Err refusal) so = so
+logged_refuses : (change : Change) (made : Result State Reply) → Refuses made → Refuses (logged_then change made)
+logged_refuses change (Ok s) so = tt
+logged_refuses change (Err refusal) so = so
 
-written_refuses : (filter_bytes : FilterBytes) (s : State) (entry : Entry) → Refuses (written filter_bytes s entry)
-written_refuses filter_bytes s entry =
-    either (is_long entry) _ _ (flushed_refuses filter_bytes (logged s entry) (memory (logged s entry)))
-    (either (nat_le (need entry) (gap s.log)) _ _ tt (logged_refuses entry (flushed filter_bytes s) (flushed_refuses filter_bytes s (memory s))))
+written_refuses : (filter_bytes : FilterBytes) (s : State) (change : Change) → Refuses (written filter_bytes s change)
+written_refuses filter_bytes s change =
+    either (is_long (recorded change)) _ _ (flushed_refuses filter_bytes (logged s change) (in_memory (logged s change)) (memory (logged s change)))
+    (either (nat_le (need_of change) (gap_after s.log)) _ _ tt (logged_refuses change (flushed filter_bytes s) (flushed_refuses filter_bytes s (in_memory s) (memory s))))
 
 placed_refuses : (s : State) (made : Result (List Table) NoRoom) → Refuses (compact_placed s made)
 placed_refuses s (Ok made) = tt
 placed_refuses s (Err refusal) = inl refl
 
-compacted_refuses : (filter_bytes : FilterBytes) (s : State) (entries : List Entry) → Refuses (compacted_with filter_bytes s entries)
+compacted_refuses : (filter_bytes : FilterBytes) (s : State) (changes : List Change) → Refuses (compacted_with filter_bytes s changes)
 compacted_refuses filter_bytes s [] = tt
-compacted_refuses filter_bytes s (entry ∷ more) = either (s.epoch == last_epoch) _ _ (inl refl) (placed_refuses s _)
+compacted_refuses filter_bytes s (change ∷ more) = either (s.epoch == last_epoch) _ _ (inl refl) (placed_refuses s _)
 
 -- ---- so are limits
 
@@ -120,16 +122,16 @@ done_or old (Ok s) so = inl refl
 done_or old (Err reply) so = inr so
 
 within : (filter_bytes : FilterBytes) (s : State) (request : Request) → IsOf (state_map s) request (answer_within filter_bytes s request).0
-within filter_bytes s (Put key value) = done_or s _ (written_refuses filter_bytes s (put_entry key value))
-within filter_bytes s (Del key) = done_or s _ (written_refuses filter_bytes s (del_entry key))
+within filter_bytes s (Put key value) = done_or s _ (written_refuses filter_bytes s (Sets (put_entry key value)))
+within filter_bytes s (Del key) = done_or s _ (written_refuses filter_bytes s (Sets (del_entry key)))
 within filter_bytes s (Get key) = inl refl
 within filter_bytes s (Seek lo hi) = inl refl
 within filter_bytes s (Range lo hi n) = inl refl
 within filter_bytes s (Count lo hi) = inl refl
 within filter_bytes s (Estimate lo hi) = inl (estimate s lo hi, refl)
 within filter_bytes s (Explain key) = inl (length s.tables, admitted s key, blocks_read s key, refl)
-within filter_bytes s Flush = done_or s _ (flushed_refuses filter_bytes s (memory s))
-within filter_bytes s Compact = done_or (without_job s) _ (compacted_refuses filter_bytes s (entries_of s))
+within filter_bytes s Flush = done_or s _ (flushed_refuses filter_bytes s (in_memory s) (memory s))
+within filter_bytes s Compact = done_or (without_job s) _ (compacted_refuses filter_bytes s (changes_of s))
 within filter_bytes s Quit = inl refl
 within filter_bytes s (Bad code) = inl refl
 

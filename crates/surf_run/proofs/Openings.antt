@@ -12,6 +12,9 @@ use Rattle.image_model.specs.Opening.{FirstDamage}
 use Rattle.image_model.specs.Stands.{IsStateOf}
 use Rattle.line_model.specs.Replies.{text_of}
 use Rattle.line_model.specs.Replies as replies
+use Rattle.lines_in.specs.Causes.{DiskFailed, SayFailed, StatusCause, WritesWithin}
+use Rattle.lines_in.proofs.EndCauses.{disk_then, no_fall_none, no_fall_say, rose_since}
+use Rattle.lines_in.proofs.Footprint.{within_none, within_on, within_still}
 use Rattle.manifest_model.proofs.Versions.{one_version}
 use Rattle.manifest_model.specs.Slots.{IsNoStore, IsVersionOf}
 use Rattle.manifest_model.specs.Version.{Version}
@@ -25,14 +28,11 @@ use Rattle.store_core.specs.Opening.{IsOpenAnswer, IsOpenRefusal}
 use Rattle.store_core.specs.Represents.{Represents}
 use Rattle.store_core.specs.declared.error.StoreError.{StoreError}
 use Rattle.store_core.specs.declared.error.StoreError.TheVariants as error
-use Rattle.surf_run.specs.Causes.{DiskFailed, SayFailed, StatusCause, WritesWithin}
 use Rattle.surf_run.specs.Crash.{EachImageStandsFor, HasMap}
 use Rattle.surf_run.specs.ServedOrNot.{TellsDamage}
 use Rattle.surf_run.specs.Kind.{Kind}
 use Rattle.surf_run.specs.Open.{IsFreeText, IsOpening, IsOpeningText, OpeningEnds, OpenMoves, OpensNothing, opening_status, opening_text}
 use Rattle.surf_run.specs.Serving.{ServeInvariant}
-use Rattle.surf_run.proofs.EndCauses.{disk_then, no_fall_none, no_fall_say, rose_since}
-use Rattle.surf_run.proofs.Footprint.{within_none, within_on, within_still}
 use Rattle.surf_run.proofs.History.{ack_none}
 use Rattle.surf_run.proofs.Moments.{map_of_image, map_of_state, torn_none}
 use Rattle.surf_run.proofs.Outcomes.{served_none}
@@ -64,7 +64,7 @@ opened_ends spelling first tells output status old new opens = record {
 
 module _ (kind : Kind) (start : State) (base : ℕ) (store : StoreValue) (old mid : World) (tied : Represents kind.spelling kind.filter_bytes store start mid) (stand : EachImageStandsFor kind start mid) (reads : mid.seen.reads ≤ base) where
   -- since before the opening, where each image of then stands for the state
-  pub served_open : OpenMoves old mid → SaidByNow old → Now (IsStateOf kind.spelling start) old → ServeInvariant kind start base [] [] store old mid
+  pub served_open : OpenMoves old mid → SaidByNow old → Now (IsStateOf kind.spelling start) old → ServeInvariant kind start base [] store old mid
   served_open opened now_old here =
       let said_same : mid.beside.said ≡ old.beside.said = ap (λ (s : Streams). s.said) opened.beside in
       served_none kind start base store old mid said_same
@@ -76,7 +76,7 @@ module _ (kind : Kind) (start : State) (base : ℕ) (store : StoreValue) (old mi
       tied stand opened.counts reads (within_still (page_bytes * start.pages) old mid opened.held opened.time)
 
   -- from the opening on
-  pub served_now : SaidByNow mid → ServeInvariant kind start base [] [] store mid mid
+  pub served_now : SaidByNow mid → ServeInvariant kind start base [] store mid mid
   served_now now_mid =
       served_none kind start base store mid mid refl
       (λ then. during_weaker (λ k image. (k ≡ length mid.beside.said) × HasMap kind start image) _ mid mid

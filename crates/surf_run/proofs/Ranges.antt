@@ -9,6 +9,14 @@ use Rattle.disk_trait.proofs.Moments.{in_call, same_then}
 use Rattle.disk_trait.specs.World.{Image, Passes, Same, Seen, Streams, World}
 use Rattle.line_model.specs.Replies.{Device, End as EndReply, Pairs, Reply, at_words, text_of}
 use Rattle.line_model.specs.Requests.{Range, Request}
+use Rattle.lines_in.specs.Causes.{LineMoves}
+use Rattle.lines_in.specs.Saying.{SaysBehind, end_by}
+use Rattle.lines_in.specs.declared.line_end.LineEnd.{LineEnd}
+use Rattle.lines_in.specs.declared.line_end.LineEnd.TheVariants.{End, Next}
+use Rattle.lines_in.proofs.EndCauses.{line_read, line_say, lines_none, lines_on, no_fall_say, rose_since, rose_then}
+use Rattle.lines_in.proofs.Footprint.{within_still}
+use Rattle.lines_in.proofs.Pieces.{goes_on}
+use Rattle.lines_in.proofs.LastLines.{now_still}
 use Rattle.map_model.specs.Slices.{first_pair, slice}
 use Rattle.map_model.specs.SortedMap.{Bytes, Map}
 use Rattle.merge_rows.specs.Reads.{OnlyReads}
@@ -30,18 +38,11 @@ use Rattle.store_core.specs.Represents.{Represents}
 use Rattle.store_core.specs.declared.error.StoreError.{StoreError}
 use Rattle.store_core.specs.declared.error.StoreError.TheVariants as error
 use Rattle.surf_run.specs.Answering.{EndsLine, LineAnswer}
-use Rattle.surf_run.specs.Causes.{LineMoves}
 use Rattle.surf_run.specs.Crash.{EachImageStandsFor}
 use Rattle.surf_run.specs.Dialogue.{IsBounded, reply_bound}
 use Rattle.surf_run.specs.Kind.{Kind}
-use Rattle.surf_run.specs.Saying.{SaysBehind, end_by}
-use Rattle.surf_run.specs.declared.line_end.LineEnd.{LineEnd}
-use Rattle.surf_run.specs.declared.line_end.LineEnd.TheVariants.{End, Next}
 use Rattle.surf_run.proofs.Calms.{asked_step}
-use Rattle.surf_run.proofs.EndCauses.{line_read, line_say, lines_none, lines_on, no_fall_say, rose_since, rose_then}
-use Rattle.surf_run.proofs.Footprint.{within_still}
-use Rattle.surf_run.proofs.Pieces.{goes_on}
-use Rattle.surf_run.proofs.Moments.{map_of_state, now_still, stands_still, tied_stands, tied_still}
+use Rattle.surf_run.proofs.Moments.{map_of_state, stands_still, tied_stands, tied_still}
 
 -- ---- reads and says in turn
 
@@ -109,7 +110,7 @@ pair_text pair = at_words pair.0 pair.1 ++ 10 ∷ []
 abbrev pub pairs_text : Map → Bytes
 pairs_text pairs = flat_map (λ (pair : Bytes × Bytes). at_words pair.0 pair.1 ++ 10 ∷ []) pairs
 
--- so many pairs, and one more
+-- a given number of pairs, and one more
 said_more : (n : ℕ) (m : Map) (pair : Bytes × Bytes) → first_pair (drop n m) ≡ Some pair → pairs_text (take (suc n) m) ≡ pairs_text (take n m) ++ pair_text pair
 said_more zero [] pair is = absurd cc
 said_more zero (first ∷ more) pair is = let same : first ≡ pair = cc in append-nil (pair_text first) ∙ ap (λ (p : Bytes × Bytes). pair_text p) same
@@ -120,7 +121,7 @@ said_more (suc n) (first ∷ more) pair is =
 pub one_said : (n : ℕ) (m : Map) (pair : Bytes × Bytes) → first_pair (drop n m) ≡ Some pair → pairs_text (take (n + 1) m) ≡ pairs_text (take n m) ++ pair_text pair
 one_said n m pair is = let next : n + 1 ≡ suc n = omega arith in ap (λ (k : ℕ). pairs_text (take k m)) next ∙ said_more n m pair is
 
--- what is said behind so many pairs and this one
+-- what is said after a given number of pairs and this one
 pub behind_pair : ℕ → Map → Bytes
 behind_pair n m = pairs_text (drop (suc n) m)
 
@@ -195,7 +196,7 @@ module _ (kind : Kind) (s : State) (request : Request) (store : StoreValue) (a b
 
 -- ---- how a range ends
 
--- one pair more waits behind those that wait
+-- one pair more waits after those that wait
 pub one_waits : (n : ℕ) (m : Map) (pair : Bytes × Bytes) → first_pair (drop n m) ≡ Some pair → (first so_far now waits : Bytes) → now ≡ so_far → so_far ++ waits ≡ first ++ pairs_text (take n m)
     → now ++ (waits ++ pair_text pair) ≡ first ++ pairs_text (take (n + 1) m)
 one_waits n m pair is first so_far now waits same said =
@@ -216,7 +217,7 @@ module _ (kind : Kind) (s : State) (lo hi : Bytes) (most : ℕ) (store : StoreVa
         ap (λ (st : Streams). st.said ++ (waits ++ text)) moves.1.beside ∙ sym (append_assoc w.beside.said waits text) ∙ ap (λ (l : Bytes). l ++ text) said
         ∙ append_assoc a.beside.said (pairs_text (take n all)) text
 
-    -- of the pairs and a text behind them a part was said
+    -- of the pairs and a text after them a part was said
     said_part : (text : Bytes) → SaysPrefix (waits ++ text) mid.beside.said b.beside.said
         → (done : Bytes) × (b.beside.said ≡ a.beside.said ++ done) × ((rest : Bytes) × (pairs_text (take n all) ++ text ≡ done ++ rest))
     said_part text prefix =
@@ -232,7 +233,7 @@ module _ (kind : Kind) (s : State) (lo hi : Bytes) (most : ℕ) (store : StoreVa
           let part = said_part (text_of last) prefix in
           walked_six kind s (Range lo hi most) store a b few tied walked_b (λ never. never) (Pairs (take n all) last) step part.0 part.2.0 part.2.1 part.1 result six
 
-      -- behind these pairs the last line was said
+      -- after these pairs the last line was said
       pub last_next : turn_of (Pairs (take n all) last) ≡ Onward → SaysBehind waits Next last result mid b → EndsLine kind result s (Range lo hi most) store a b
       last_next goes says = elim says.1 [
         | inl whole ↦ walked_next kind s (Range lo hi most) store a b few tied walked_b (λ never. never) (Pairs (take n all) last) step (pairs_text (take n all) ++ text_of last) []

@@ -8,6 +8,12 @@ use Rattle.disk_trait.specs.declared.fault.DiskFault.{DiskFault}
 use Rattle.line_model.specs.Limits.{limit_of}
 use Rattle.line_model.specs.Replies.{Damaged, Device, LastEpoch, LongKey, LongValue, ManyTables, Memory, Reply, found}
 use Rattle.line_model.specs.Requests.{Request, Seek}
+use Rattle.lines_in.specs.Causes.{EndCause, NoFall, SayFailed}
+use Rattle.lines_in.specs.Saying.{Says, end_by}
+use Rattle.lines_in.specs.declared.line_end.LineEnd.{LineEnd}
+use Rattle.lines_in.specs.declared.line_end.LineEnd.TheVariants.{End, Next}
+use Rattle.lines_in.proofs.EndCauses.{line_read, line_say, lines_on, rose_since, rose_then}
+use Rattle.lines_in.proofs.Footprint.{within_still}
 use Rattle.map_model.specs.SortedMap.{Bytes}
 use Rattle.merge_rows.specs.Reads.{OnlyReads}
 use Rattle.outside.specs.Streams.{SaidByNow, SayMoves}
@@ -25,17 +31,13 @@ use Rattle.store_core.specs.declared.error.Limit.TheVariants as limit
 use Rattle.store_core.specs.declared.error.StoreError.{StoreError}
 use Rattle.store_core.specs.declared.error.StoreError.TheVariants as error
 use Rattle.surf_run.specs.Answering.{AnswersLine, EndsLine}
-use Rattle.surf_run.specs.Causes.{EndCause, LineShows, NoFall, SayFailed}
+use Rattle.surf_run.specs.Causes.{LineShows}
 use Rattle.surf_run.specs.Dialogue.{IsBounded, reply_bound}
 use Rattle.surf_run.specs.Kind.{Kind}
 use Rattle.surf_run.specs.Refusals.{end_of_refusal}
-use Rattle.surf_run.specs.Saying.{Says, end_by}
-use Rattle.surf_run.specs.declared.line_end.LineEnd.{LineEnd}
-use Rattle.surf_run.specs.declared.line_end.LineEnd.TheVariants.{End, Next}
 use Rattle.surf_run.proofs.Calms.{limited_step, runs_any, status_of, still_device, still_next}
-use Rattle.surf_run.proofs.EndCauses.{line_read, line_say, lines_on, rose_since, rose_then}
 use Rattle.surf_run.specs.Causes.{IfDevice}
-use Rattle.surf_run.proofs.Footprint.{pages_say, pages_still, within_still}
+use Rattle.surf_run.proofs.Footprint.{pages_say, pages_still}
 use Rattle.surf_run.proofs.Moments.{tied_stands, tied_still}
 
 -- ---- why it is refused

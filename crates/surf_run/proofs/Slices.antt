@@ -1,10 +1,15 @@
--- A merge slice behind a reply.
+-- A merge slice after a reply.
 use Rattle.std.proofs.Common.{◌≡◌, inl, inr, ◌≤◌, ◌+◌, ◌*◌, ℕ, Bool, true, false, List, length, length-append, refl, sym, ap, ◌∙◌, subst, arith}
 use Rattle.std.specs.Prelude.{IsTrue}
 use Rattle.block_model.specs.Pages.{page_bytes}
 use Rattle.disk_trait.specs.World.{Image, Meanwhile, Streams, World}
 use Rattle.line_model.specs.Replies.{Bye, Reply, text_of}
 use Rattle.line_model.specs.Requests.{Bad, Compact, Count, Del, Estimate, Explain, Flush, Get, Put, Quit as AskQuit, Range, Request, Seek}
+use Rattle.lines_in.specs.Causes.{LineMoves, NoFall, WritesWithin}
+use Rattle.lines_in.specs.declared.line_end.LineEnd.{LineEnd}
+use Rattle.lines_in.specs.declared.line_end.LineEnd.TheVariants.{End, Next, Quit}
+use Rattle.lines_in.proofs.EndCauses.{cause_as, cause_since, lines_on}
+use Rattle.lines_in.proofs.Footprint.{within_on}
 use Rattle.outside.specs.During.{During}
 use Rattle.outside.specs.Streams.{SaidByNow, SaysPrefix}
 use Rattle.outside.proofs.Crossing.{during_disk, during_then, during_weaker}
@@ -17,20 +22,18 @@ use Rattle.state_model.specs.State.{State}
 use Rattle.store_core.specs.Answers.{HasCause}
 use Rattle.store_core.specs.StoreValue.{StoreValue}
 use Rattle.surf_run.specs.Answering.{AnswersLine, EndsLine, InLine, LineAnswer, SaysOnward, Whole}
-use Rattle.surf_run.specs.Causes.{EndsOnward, LineMoves, LineShows, NoFall, ServedShows, SliceShows, WritesWithin}
+use Rattle.surf_run.specs.Causes.{EndsOnward, LineShows, ServedShows, SliceShows}
 use Rattle.surf_run.specs.Crash.{HasMap, WasStateAt}
 use Rattle.surf_run.specs.Dialogue.{line_bound, reply_bound, slice_blocks, slice_bound}
 use Rattle.surf_run.specs.Kind.{Kind}
 use Rattle.surf_run.specs.Slices.{EndsServed, EndsSlice, MakesSlice, ServesLine, SliceMade}
-use Rattle.surf_run.specs.declared.line_end.LineEnd.{LineEnd}
-use Rattle.surf_run.specs.declared.line_end.LineEnd.TheVariants.{End, Next, Quit}
 use Rattle.surf_run.proofs.Dialogues.{between_made, between_none, step_as, tend_as}
-use Rattle.surf_run.proofs.EndCauses.{cause_as, cause_since, causes_later, causes_since, lines_on}
-use Rattle.surf_run.proofs.Footprint.{pages_on, within_on}
+use Rattle.surf_run.proofs.EndCauses.{causes_later, causes_since}
+use Rattle.surf_run.proofs.Footprint.{pages_on}
 use Rattle.surf_run.proofs.History.{reached_here, reached_on}
 use Rattle.table_model.specs.Tables.{FilterBytes}
 
--- behind a put and a delete as many blocks more may be read as a slice may read
+-- after a put and a delete as many blocks more may be read as a slice may read
 bound_with_slice : (request : Request) → has_slice request ≡ true → slice_bound request ≡ slice_blocks
 bound_with_slice (Put key value) has = refl
 bound_with_slice (Del key) has = refl
@@ -73,7 +76,7 @@ module _ (kind : Kind) (old : State) (request : Request) (reply : Reply) (new : 
   }
 
 module _ (kind : Kind) (old : State) (request : Request) (store : StoreValue) (a b : World) (now : SaidByNow b) where
-  -- with the last reply, or behind a request that has no slice
+  -- with the last reply, or after a request that has no slice
   pub served_end : (status : ℕ) → EndsLine kind (End status) old request store a b → EndsServed kind (End status) old request store a b
   served_end status ends = (
     ends.0,
@@ -118,7 +121,7 @@ module _ (kind : Kind) (tells tells_output : Bool) (request : Request) (end : Li
     within = answers.within;
   }
 
--- ---- a line with a slice behind it
+-- ---- a line with a slice after it
 
 module _ (kind : Kind) (old : State) (request : Request) (has : has_slice request ≡ true) (reply : Reply) (new : State) (a mid b : World)
     (answer : LineAnswer kind old request reply new (reply_bound old request) a mid) (whole : Whole reply a mid) (now_mid : SaidByNow mid) (silent : b.beside ≡ mid.beside) (falls : NoFall mid b)

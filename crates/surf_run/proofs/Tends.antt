@@ -5,6 +5,9 @@ use Rattle.block_model.specs.Pages.{page_bytes}
 use Rattle.byte_fields.specs.declared.parts.Damage.{Damage}
 use Rattle.disk_trait.specs.World.{Streams, World}
 use Rattle.line_model.specs.Replies.{Damaged, Device, Full, LastEpoch, LongKey, LongValue, ManyTables, Memory}
+use Rattle.lines_in.specs.Causes.{DiskFailed, EndCause, NoFall, WritesWithin}
+use Rattle.lines_in.specs.declared.line_end.LineEnd.{LineEnd}
+use Rattle.lines_in.specs.declared.line_end.LineEnd.TheVariants.{End, Next}
 use Rattle.state_model.specs.Script.{AtDevice, Onward, Over, turn_of_slice}
 use Rattle.state_model.specs.State.{State}
 use Rattle.state_model.specs.Tends.{Idle, Refused, Tend, Tended, Worked}
@@ -17,15 +20,13 @@ use Rattle.store_core.specs.declared.error.Limit.TheVariants as limit
 use Rattle.store_core.specs.declared.error.StoreError.{StoreError}
 use Rattle.store_core.specs.declared.error.StoreError.TheVariants as error
 use Rattle.surf_run.specs.Answering.{RunsOn}
-use Rattle.surf_run.specs.Causes.{DiskFailed, EndCause, NoFall, SliceShows, WritesWithin}
+use Rattle.surf_run.specs.Causes.{SliceShows}
 use Rattle.surf_run.specs.Kind.{Kind}
 use Rattle.surf_run.specs.Refusals.{end_of_change}
 use Rattle.surf_run.specs.Slices.{EndsSlice, MakesSlice}
 use Rattle.store_core.specs.Tending.{IsTended, IsTendRefusal, SomeMoves, Tends, told_slice}
 use Rattle.store_core.specs.declared.tending.Tended.{Tended as Told}
 use Rattle.store_core.specs.declared.tending.Tended.TheVariants as told_as
-use Rattle.surf_run.specs.declared.line_end.LineEnd.{LineEnd}
-use Rattle.surf_run.specs.declared.line_end.LineEnd.TheVariants.{End, Next}
 use Rattle.surf_run.proofs.Moments.{tied_pages, tied_stands}
 use Rattle.table_model.specs.Tables.{FilterBytes}
 

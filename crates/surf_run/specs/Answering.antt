@@ -4,6 +4,10 @@ use Rattle.block_model.specs.Pages.{page_bytes}
 use Rattle.disk_trait.specs.World.{Image, World}
 use Rattle.line_model.specs.Replies.{Bye, Device, Reply, text_of}
 use Rattle.line_model.specs.Requests.{Request}
+use Rattle.lines_in.specs.Causes.{EndCause, LineMoves, WritesWithin}
+use Rattle.lines_in.specs.declared.line_end.LineEnd.{LineEnd}
+use Rattle.lines_in.specs.declared.line_end.LineEnd.TheVariants.{End, Next, Quit}
+use Rattle.lines_in.specs.Statuses.{device_status, output_status}
 use Rattle.outside.specs.During.{During}
 use Rattle.outside.specs.Streams.{SaysPrefix}
 use Rattle.state_model.specs.Script.{AtDevice, Onward, Over, turn_of}
@@ -12,15 +16,12 @@ use Rattle.state_model.specs.Steps.{Step}
 use Rattle.store_core.specs.Answers.{HasCause}
 use Rattle.store_core.specs.StoreValue.{StoreValue}
 use Rattle.store_core.specs.Represents.{Represents}
-use Rattle.surf_run.specs.Causes.{EndCause, LineMoves, LineShows, WithinPages, WritesWithin}
+use Rattle.surf_run.specs.Causes.{LineShows, WithinPages}
 use Rattle.surf_run.specs.Crash.{EachImageStandsFor, HasMap, HasMapAfter}
 use Rattle.surf_run.specs.Dialogue.{IsBounded, reply_bound}
 use Rattle.surf_run.specs.Kind.{Kind}
-use Rattle.surf_run.specs.declared.line_end.LineEnd.{LineEnd}
-use Rattle.surf_run.specs.declared.line_end.LineEnd.TheVariants.{End, Next, Quit}
-use Rattle.surf_run.specs.Statuses.{device_status, output_status}
 
--- Before the reply's first byte an image has the map before the line or the one behind the reply; from then on the one behind it.
+-- Before the reply's first byte an image has the map before the line or the one after the reply; from then on the one after it.
 abbrev pub InLine : Kind → State → Request → Reply → State → ℕ → ℕ → ℕ → Image → Type 0
 InLine kind old request reply new low high n image =
     ((n ≡ low) × HasMap kind old image) ⊎ ((low ≤ n) × (n ≤ high) × HasMapAfter kind old request reply new image)
@@ -46,7 +47,7 @@ abbrev pub EndStatusOfReply : Kind → ℕ → Reply → State → World → Wor
 EndStatusOfReply kind status reply new a b =
     ((status ≡ device_status) × (turn_of reply ≡ Over AtDevice) × Whole reply a b × (reply ≢ Device → EachImageStandsFor kind new b)) ⊎ ((status ≡ output_status) × (reply ≢ Device → EachImageStandsFor kind new b))
 
--- How a line ended over a store that was that of a state. Where the store is not stopped, it is that of the state behind the line.
+-- How a line ended over a store that was that of a state. Where the store is not stopped, it is that of the state after the line.
 abbrev pub EndsLine : Kind → LineEnd → State → Request → StoreValue → World → World → Type 0
 EndsLine kind Next old request store a b =
     (reply : Reply) × (new : State) × LineAnswer kind old request reply new (reply_bound old request) a b × (turn_of reply ≡ Onward) × Whole reply a b

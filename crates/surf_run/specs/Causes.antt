@@ -1,11 +1,12 @@
 -- Why a run ends, what it may change, and what never falls.
-use Rattle.std.specs.Prelude.{◌≡◌, ◌⊎◌, ◌≤◌, ◌*◌, ◌++◌, ℕ, List, true}
+use Rattle.std.specs.Prelude.{◌≡◌, ◌⊎◌, ◌≤◌, ◌*◌, ◌++◌, List, true}
 use Rattle.block_model.specs.Pages.{page_bytes}
 use Rattle.byte_fields.specs.declared.parts.Damage.{Damage}
-use Rattle.disk_trait.specs.World.{Image, Passes, Rose, Torn, World}
+use Rattle.disk_trait.specs.World.{Image, World}
 use Rattle.line_model.specs.Replies.{Reply, text_of}
 use Rattle.line_model.specs.Replies as line
 use Rattle.line_model.specs.Requests.{Compact, Count, Get, Range, Request, Seek}
+use Rattle.lines_in.specs.Causes.{WritesWithin}
 use Rattle.map_model.specs.SortedMap.{Bytes}
 use Rattle.state_model.specs.PlayLaws.{has_slice}
 use Rattle.state_model.specs.Script.{Onward, turn_of}
@@ -14,55 +15,13 @@ use Rattle.store_core.specs.Scans.{IsScanShown}
 use Rattle.store_core.specs.StoreValue.{StoreValue}
 use Rattle.store_core.specs.declared.error.StoreError.{StoreError}
 use Rattle.store_core.specs.declared.error.StoreError.TheVariants as error
-use Rattle.surf_run.specs.declared.line_end.LineEnd.{LineEnd}
-use Rattle.surf_run.specs.declared.line_end.LineEnd.TheVariants.{Next, Quit, End}
 use Rattle.table_file.specs.Opened.{Opened}
 use Rattle.table_file.specs.declared.fault.TableFault.TheVariants.{Damaged}
-use Rattle.surf_run.specs.Statuses.{done_status, input_status, device_status, damaged_status, output_status, memory_status, limit_status}
-
--- no count of faults falls
-pub record NoFall (old new : World) : Type 0 where
-  pub read : old.seen.read_faults ≤ new.seen.read_faults
-  pub write : old.seen.write_faults ≤ new.seen.write_faults
-  pub take : old.beside.take_faults ≤ new.beside.take_faults
-  pub say : old.beside.say_faults ≤ new.beside.say_faults
-
--- a read, or a write or a sync, failed in this call
-abbrev pub DiskFailed : World → World → Type 0
-DiskFailed old new = Rose old.seen.read_faults new.seen.read_faults ⊎ Rose old.seen.write_faults new.seen.write_faults
-
-abbrev pub TakeFailed : World → World → Type 0
-TakeFailed old new = Rose old.beside.take_faults new.beside.take_faults
-
-abbrev pub SayFailed : World → World → Type 0
-SayFailed old new = Rose old.beside.say_faults new.beside.say_faults
-
--- a status that tells of a fault comes only where the count of such faults rose
-pub record StatusCause (status : ℕ) (old new : World) : Type 0 where
-  pub taking : status ≡ input_status → TakeFailed old new
-  pub device : status ≡ device_status → DiskFailed old new
-  pub saying : status ≡ output_status → SayFailed old new
-
--- a run that only says a line ends with this status, or with 7 where there was no memory, or with 6 where the line could not be
--- said whole
-abbrev pub EndsAt : ℕ → ℕ → World → World → Type 0
-EndsAt wanted status old new = (status ≡ wanted) ⊎ (status ≡ memory_status) ⊎ ((status ≡ output_status) × SayFailed old new)
-
--- Nothing changes behind the first so many bytes: neither what the device reads as, nor what a crash may leave at any later
--- moment, beside what it might have left at the start.
-pub record WritesWithin (n : ℕ) (old new : World) : Type 0 where
-  pub held : Torn 0 n old.seen.held new.seen.held
-  pub time : Passes (Torn 0 n) old new
 
 -- A store has as many pages as before, and nothing changes beyond them.
 pub record WithinPages (store new : StoreValue) (a b : World) : Type 0 where
   pub pages : new.manifest.version.pages ≡ store.manifest.version.pages
   pub within : WritesWithin (page_bytes * store.manifest.version.pages) a b
-
--- what answering lines does: nothing is taken, and no count of faults falls
-pub record LineMoves (old new : World) : Type 0 where
-  pub input : new.beside.to_take ≡ old.beside.to_take
-  pub counts : NoFall old new
 
 -- what is so where a call of the device failed
 abbrev pub IfDevice : Type 0 → StoreError → Type 0
@@ -104,12 +63,6 @@ EndsOnward w = (reply : Reply) × (before : Bytes) × (turn_of reply ≡ Onward)
 abbrev pub MeetsSomeDamage : World → Type 0
 MeetsSomeDamage w = (tables : List Opened) × EndsOnward w × MeetsDamage tables w
 
--- An end of the run by a line has its cause, and damage has this one.
-abbrev pub EndCause : (World → Type 0) → LineEnd → World → World → Type 0
-EndCause Shows Next old new = Unit {0}
-EndCause Shows Quit old new = Unit {0}
-EndCause Shows (End status) old new = ((status ≡ device_status) × DiskFailed old new) ⊎ ((status ≡ damaged_status) × Shows new) ⊎ ((status ≡ output_status) × SayFailed old new)
-
 -- where bytes are told: the damage of these tables that a request met
 abbrev pub LineShows : Type 0 → List Opened → Request → World → Type 0
 LineShows Told tables request w = Told → SaysDamage tables request w
@@ -118,7 +71,7 @@ LineShows Told tables request w = Told → SaysDamage tables request w
 abbrev pub SliceShows : Type 0 → List Opened → World → Type 0
 SliceShows Told tables w = Told → MeetsDamage tables w
 
--- the one of the tables before a line, or, behind a put and a delete whose reply was said, the other of those behind it
+-- the one of the tables before a line, or, after a put and a delete whose reply was said, the other of those after it
 abbrev pub ServedShows : Type 0 → List Opened → List Opened → Request → World → Type 0
 ServedShows Told tables later request w = Told → SaysDamage tables request w ⊎ ((has_slice request ≡ true) × EndsOnward w × MeetsDamage later w)
 
@@ -136,7 +89,3 @@ RunMeetsDamage IsALoad old new = ShowsSomeDamage new ⊎ (IsALoad × MeetsUnsaid
 
 abbrev pub RunShows : Type 0 → World → Type 0
 RunShows Told w = Told → ShowsSomeDamage w
-
--- the statuses with which serving ends
-abbrev pub IsServing : ℕ → Type 0
-IsServing status = (status ≡ done_status) ⊎ (status ≡ input_status) ⊎ (status ≡ device_status) ⊎ (status ≡ output_status) ⊎ (status ≡ limit_status)

@@ -8,6 +8,9 @@ use Rattle.image_model.specs.Findings.{AreFindings, BrokenRule, Finding, OtherSu
 use Rattle.image_model.specs.Stands.{IsStateOf}
 use Rattle.line_model.specs.Replies.{part_word, sum_word, text_of}
 use Rattle.line_model.specs.Replies as replies
+use Rattle.lines_in.specs.Causes.{NoFall, SayFailed, SomeFailed}
+use Rattle.lines_in.specs.Statuses.{device_status, done_status, findings_status, memory_status, output_status, store_status}
+use Rattle.lines_in.specs.Unserved.{LastLine}
 use Rattle.manifest_model.specs.Slots.{IsNoStore}
 use Rattle.map_model.specs.SortedMap.{Bytes}
 use Rattle.state_model.specs.State.{State}
@@ -17,11 +20,7 @@ use Rattle.store_check.specs.Summaries.{entries_in}
 use Rattle.store_check.specs.declared.check.Check.{Check}
 use Rattle.store_check.specs.declared.error.CheckError.{CheckError}
 use Rattle.store_check.specs.declared.error.CheckError.TheVariants as error
-use Rattle.surf_run.specs.Causes.{NoFall, SayFailed}
 use Rattle.surf_run.specs.Open.{IsFreeText, no_store_text}
-use Rattle.surf_run.specs.ServedOrNot.{SomeFailed}
-use Rattle.surf_run.specs.Statuses.{device_status, done_status, findings_status, memory_status, output_status, store_status}
-use Rattle.surf_run.specs.Unserved.{LastLine}
 use Rattle.table_file.specs.Faults.{filter_fault_of}
 use Rattle.table_model.specs.Damage.{IsOfBytes}
 
@@ -47,7 +46,7 @@ counted findings = min (length findings) (2 ^ 64 - 1)
 abbrev pub found_text : ℕ → Bytes
 found_text many = codes "findings " ++ (decimal many ++ 10 ∷ [])
 
--- of so many tables, entries, pairs and records of the log
+-- of a given number of tables, entries, pairs and records of the log
 abbrev pub clean_text : ℕ → ℕ → ℕ → ℕ → Bytes
 clean_text tables entries live log =
     codes "clean tables " ++ (decimal tables ++ (codes " entries " ++ (decimal entries ++ (codes " live " ++ (decimal live ++ (codes " log " ++ (decimal log ++ 10 ∷ [])))))))

@@ -14,7 +14,7 @@ use Rattle.surf_run.specs.Dialogue.{AnsweredLines}
 use Rattle.surf_run.specs.Kind.{Kind}
 use Rattle.surf_run.specs.MapCrash.{GoesOnAs}
 
--- the image stands for this state, its job apart, and what the job has written stands in its extents
+-- the image stands for this state, its job apart, and what the job has written is in its extents
 abbrev pub HasState : Kind → State → Image → Type 0
 HasState kind s image = StandsFor kind.spelling s image × UnnamedStand kind.spelling s image
 
@@ -22,7 +22,7 @@ HasState kind s image = StandsFor kind.spelling s image × UnnamedStand kind.spe
 abbrev pub EachImageStandsFor : Kind → State → World → Type 0
 EachImageStandsFor kind s w = Now (HasState kind s) w
 
--- at some moment up to now so many bytes had been said, and each image that a crash may then leave stands for this state
+-- at some moment up to now a given number of bytes had been said, and each image that a crash may then leave stands for this state
 abbrev pub WasStateAt : Kind → World → ℕ → State → Type 0
 WasStateAt kind w n s = (m : ℕ) × (m ≤ w.moment) × (w.beside.said_by m ≡ n) × ((image : Image) → w.leaves m image → HasState kind s image)
 
@@ -34,12 +34,12 @@ HasMap kind s image = StandsForMap kind.spelling (state_map s) image
 abbrev pub HasOldOrNewMap : Kind → State → Request → Image → Type 0
 HasOldOrNewMap kind s request image = HasMap kind s image ⊎ HasMap kind (answer kind.filter_bytes s request).1 image
 
--- the map behind this reply to the request; behind `device` the map before the request or that of its answer
+-- the map after this reply to the request; after `device` the map before the request or that of its answer
 abbrev pub HasMapAfter : Kind → State → Request → Reply → State → Image → Type 0
 HasMapAfter kind s request reply next image = HasMap kind next image ⊎ ((reply ≡ Device) × HasOldOrNewMap kind s request image)
 
--- Behind some lines, with this state and this text: nothing more had been said, and the image has the state's map; or a part of the
--- reply to the next line had been said, be it none of it, and the image has the map behind that reply. It is the one that is said:
+-- After some lines, with this state and this text: nothing more had been said, and the image has the state's map; or a part of the
+-- reply to the next line had been said, be it none of it, and the image has the map after that reply. It is the one that is said:
 -- what was said then goes on as the reply does.
 abbrev pub IsAfterPrefix : (Why → Type 0) → Kind → State → List Bytes → Bytes → Bytes → Bytes → Image → Type 0
 IsAfterPrefix Cause kind now later answered told then image =

@@ -10,7 +10,7 @@ use Rattle.state_model.specs.State.{State}
 use Rattle.state_model.specs.Steps.{Step}
 use Rattle.table_model.specs.Tables.{FilterBytes}
 
--- the most blocks that the merge slice behind a line reads
+-- the most blocks that the merge slice after a line reads
 abbrev pub slice_blocks : ℕ
 slice_blocks = 8
 
@@ -20,7 +20,7 @@ reply_bound s (Get key) = get_bound s key
 reply_bound s (Seek lo (Some hi)) = seek_bound s lo hi
 reply_bound s request = 0
 
--- and the merge slice behind it, which a put and a delete have
+-- and the merge slice after it, which a put and a delete have
 abbrev pub slice_bound : Request → ℕ
 slice_bound (Put key value) = slice_blocks
 slice_bound (Del key) = slice_blocks
@@ -40,8 +40,8 @@ IsBounded request = Unit {0}
 abbrev pub AreBounded : List Bytes → Type 0
 AreBounded lines = All (λ line. IsBounded (request_of line)) lines
 
--- The lines are answered in order with this text, no reply and no merge slice ends them, and behind the last of them, and its
--- merge slice, stands this state. As each reply has been said, with so many bytes said by then, the state has R. So many blocks
+-- The lines are answered in order with this text, no reply and no merge slice ends them, and after the last of them, and its
+-- merge slice, is this state. As each reply has been said, with a given number of bytes said by then, the state has R. A given number of blocks
 -- at most are read for the lines and their merge slices.
 abbrev pub AnsweredLines : (Why → Type 0) → FilterBytes → (ℕ → State → Type 0) → ℕ → State → List Bytes → Bytes → ℕ → State → Type 0
 AnsweredLines Cause filter_bytes R said s [] text most now = (text ≡ []) × (most ≡ 0) × (now ≡ s)

@@ -1,11 +1,11 @@
 -- Why a format is refused, and how a run ends for it.
 use Rattle.std.specs.Prelude.{ℕ, []}
 use Rattle.line_model.specs.Replies as line
+use Rattle.lines_in.specs.Statuses.{done_status, device_status, memory_status, store_status}
 use Rattle.map_model.specs.SortedMap.{Bytes}
 use Rattle.store_core.specs.declared.error.StoreError.{StoreError}
 use Rattle.store_core.specs.declared.error.StoreError.TheVariants as error
 use Rattle.surf_run.specs.Formats.{already_text, bad_settings_text}
-use Rattle.surf_run.specs.Statuses.{done_status, device_status, memory_status, store_status}
 
 -- a cause that a format has
 abbrev pub IsOfFormat : StoreError → Type 0

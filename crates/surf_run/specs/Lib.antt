@@ -12,7 +12,6 @@ pub mod Dialogue
 pub mod ServedOrNot
 pub mod FormatRefusals
 pub mod Formats
-pub mod Holding
 pub mod Independence
 pub mod Kind
 pub mod Loading
@@ -25,8 +24,5 @@ pub mod Refusals
 pub mod Resetting
 pub mod RunContract
 pub mod Run
-pub mod Saying
 pub mod Serving
 pub mod Slices
-pub mod Statuses
-pub mod Unserved

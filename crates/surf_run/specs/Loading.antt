@@ -4,6 +4,10 @@ use Rattle.block_model.specs.Pages.{page_bytes}
 use Rattle.disk_trait.specs.World.{Image, World}
 use Rattle.entry_model.specs.Entries.{Entry, changed}
 use Rattle.line_model.specs.Replies.{Done, Memory, Reply, text_of}
+use Rattle.lines_in.specs.Causes.{EndCause, LineMoves, NoFall, WritesWithin}
+use Rattle.lines_in.specs.Unserved.{LastLine}
+use Rattle.lines_in.specs.declared.line_end.LineEnd.TheVariants.{End}
+use Rattle.lines_in.specs.Statuses.{device_status, memory_status}
 use Rattle.map_model.specs.SortedMap.{Bytes, Map}
 use Rattle.outside.specs.During.{During}
 use Rattle.state_model.specs.State.{State}
@@ -14,13 +18,10 @@ use Rattle.store_core.specs.StoreValue.{StoreValue}
 use Rattle.store_core.specs.Represents.{Represents}
 use Rattle.store_core.specs.declared.error.StoreError.{StoreError}
 use Rattle.store_core.specs.declared.error.StoreError.TheVariants as error
-use Rattle.surf_run.specs.Causes.{EndCause, LineMoves, MeetsUnsaid, NoFall, WithinPages, WritesWithin}
+use Rattle.surf_run.specs.Causes.{MeetsUnsaid, WithinPages}
 use Rattle.surf_run.specs.Crash.{EachImageStandsFor, HasMap, HasOldOrNewMap}
 use Rattle.surf_run.specs.Kind.{Kind}
 use Rattle.surf_run.specs.Loads.{FailsAt, HasFirstSteps, IsPassedOver, StepMade, StepsMade, change_of}
-use Rattle.surf_run.specs.Unserved.{LastLine}
-use Rattle.surf_run.specs.declared.line_end.LineEnd.TheVariants.{End}
-use Rattle.surf_run.specs.Statuses.{device_status, memory_status}
 
 -- ---- one step
 
@@ -45,7 +46,7 @@ IsAnswer false reply = IsPassedOver reply
 abbrev pub HasStep : Kind → State → Entry → Image → Type 0
 HasStep kind s step image = HasOldOrNewMap kind s (change_of step) image
 
--- the map behind a step
+-- the map after a step
 abbrev pub stepped_map : Bool → Map → Entry → Map
 stepped_map true map step = changed map step
 stepped_map false map step = map
@@ -57,7 +58,7 @@ IsStepText kind step s a b status text =
     ((status ≡ memory_status) × (text ≡ text_of Memory) × EachImageStandsFor kind s b × During (λ said image. HasMap kind s image) a b)
     ⊎ ((status ≡ device_status) × FailsAt (HasCause a b) kind.filter_bytes step s text)
 
--- The change of a step was made: the store is that of the state behind it.
+-- The change of a step was made: the store is that of the state after it.
 abbrev pub IsChanged : Kind → Entry → State → StoreValue → World → World → Bool → Type 0
 IsChanged kind step s store a b done =
     (reply : Reply) × (mid : State) × Step (HasCause a b) kind.filter_bytes s (change_of step) reply mid × IsAnswer done reply × Represents kind.spelling kind.filter_bytes store mid b
@@ -80,7 +81,7 @@ pub record StepEnds (IsMade : Bool → Type 0) (most : ℕ) (kind : Kind) (step 
 abbrev pub StepCause : Type 0 → ℕ → World → World → Type 0
 StepCause Told status a b = (status ≡ memory_status) ⊎ EndCause (λ w. Told → MeetsUnsaid a w) (End status) a b
 
--- What it promises over a running store, with so many blocks read: where it was made nothing is said, and the store runs.
+-- What it promises over a running store, with a given number of blocks read: where it was made nothing is said, and the store runs.
 pub record MakesStep (IsMade : State → Bool → Type 0) (most : ℕ) (kind : Kind) (tells tells_output : Bool) (step : Entry) (result : Result Bool ℕ) (store new : StoreValue) (a b : World) : Type 0 where
   pub made : (s : State) → IsTrue tells → IsTrue tells_output → Represents kind.spelling kind.filter_bytes store s a → StepEnds (IsMade s) most kind step result s a b
   pub running : IfOk result (λ done. new.stopped ≡ false)
@@ -91,7 +92,7 @@ pub record MakesStep (IsMade : State → Bool → Type 0) (most : ℕ) (kind : K
 
 -- ---- all of them
 
--- Since a first world the first n steps of a seed were made of a state, so many of them refused, and nothing was said or taken.
+-- Since a first world the first n steps of a seed were made of a state, a given number of them refused, and nothing was said or taken.
 pub record LoadInvariant (kind : Kind) (start : State) (seed n refused : ℕ) (store : StoreValue) (first w : World) : Type 0 where
   pub kept : List Entry
   pub now : State

@@ -24,7 +24,7 @@ IsMapReply map Compact reply = reply ≡ Done
 IsMapReply map Quit reply = reply ≡ Bye
 IsMapReply map (Bad code) reply = reply ≡ BadLine code
 
--- a refusal: by a limit, for room, or for want of memory
+-- a refusal: by a limit, for room, or for lack of memory
 abbrev pub IsRefusal : Reply → Type 0
 IsRefusal reply = (is_refusal reply ≡ true) ⊎ (reply ≡ Memory)
 

@@ -7,14 +7,14 @@ use Rattle.filter_api.specs.Spellings.{Spelling}
 use Rattle.image_model.specs.Opening.{FirstDamage}
 use Rattle.line_model.specs.Replies.{text_of}
 use Rattle.line_model.specs.Replies as replies
+use Rattle.lines_in.specs.Causes.{NoFall}
+use Rattle.lines_in.specs.Unserved.{Unserved}
+use Rattle.lines_in.specs.Statuses.{device_status, damaged_status, output_status, memory_status, store_status}
 use Rattle.manifest_model.specs.Slots.{IsNoStore}
 use Rattle.map_model.specs.SortedMap.{Bytes}
 use Rattle.store_core.specs.declared.error.StoreError.{StoreError}
 use Rattle.store_core.specs.declared.error.StoreError.TheVariants as error
-use Rattle.surf_run.specs.Causes.{NoFall}
-use Rattle.surf_run.specs.Unserved.{Unserved}
 use Rattle.table_file.specs.Faults.{filter_fault_of}
-use Rattle.surf_run.specs.Statuses.{device_status, damaged_status, output_status, memory_status, store_status}
 
 -- nothing is written, and nothing changes beside the device
 pub record OpenMoves (old new : World) : Type 0 where

@@ -1,27 +1,26 @@
 -- What a run that served came to.
-use Rattle.std.specs.Prelude.{◌≡◌, ◌≢◌, ◌⊎◌, ◌<◌, ◌≤◌, ◌+◌, ◌*◌, ◌++◌, ℕ, List, [], ◌∷◌, length, flat_map, All}
+use Rattle.std.specs.Prelude.{◌≡◌, ◌≢◌, ◌⊎◌, ◌<◌, ◌≤◌, ◌+◌, ◌*◌, ◌++◌, ℕ, List, [], ◌∷◌, length}
 use Rattle.block_model.specs.Pages.{page_bytes}
 use Rattle.disk_trait.specs.World.{World}
 use Rattle.key_base.specs.Limits.{max_input_bytes, piece_bytes}
 use Rattle.line_model.specs.Lines.{lines_of, whole_lines}
 use Rattle.line_model.specs.Replies.{Bye, Device, Reply, text_of}
 use Rattle.line_model.specs.Requests.{request_of}
+use Rattle.lines_in.specs.Causes.{IsServing, WritesWithin}
+use Rattle.lines_in.specs.Statuses.{done_status, input_status, device_status, output_status, limit_status}
+use Rattle.lines_in.specs.Taken.{TakenTo}
 use Rattle.map_model.specs.SortedMap.{Bytes}
 use Rattle.outside.specs.During.{During}
 use Rattle.outside.specs.Streams.{SaysPrefix}
-use Rattle.state_model.specs.Script.{AtDevice, AtQuit, Ending, EndsThere, Onward, Script, ToLast, turn_of}
+use Rattle.state_model.specs.Script.{AtDevice, AtQuit, Ending, ScriptEndsAt, Onward, Script, ToLast, turn_of}
 use Rattle.state_model.specs.State.{State}
 use Rattle.state_model.specs.Steps.{Step}
 use Rattle.state_model.specs.View.{state_map}
-use Rattle.store_commands.specs.Cutting.{NoNewline}
 use Rattle.store_core.specs.Answers.{HasCause}
-use Rattle.surf_run.specs.Causes.{IsServing, WritesWithin}
 use Rattle.surf_run.specs.Crash.{EachImageStandsFor, KeepsAcknowledged, WasStateAt}
 use Rattle.surf_run.specs.Dialogue.{AnsweredLines, AreBounded, line_bound}
-use Rattle.surf_run.specs.Holding.{with_newline}
 use Rattle.surf_run.specs.Kind.{Kind}
 use Rattle.surf_run.specs.OneMap.{MapDialogue}
-use Rattle.surf_run.specs.Statuses.{done_status, input_status, device_status, output_status, limit_status}
 
 -- All of the script's text was said, for the lines of what was taken; and the input was at its end, or whatever follows
 -- changes nothing. As each reply had been said that is not `device`, each image that a crash may then leave stood for the
@@ -47,24 +46,8 @@ pub record LeavesState (kind : Kind) (start : State) (base : ℕ) (lines : List 
   pub reads : AreBounded lines → new.seen.reads ≤ base + most
   pub stands : EachImageStandsFor kind last new
 
--- What was taken begins with these lines, each with its newline, and behind them stand less bytes than these.
-pub record TakenPast (most : ℕ) (taken : Bytes) (lines : List Bytes) : Type 0 where
-  pub whole : All NoNewline lines
-  pub behind : Bytes
-  pub split : taken ≡ flat_map with_newline lines ++ behind
-  pub less : length behind < most
-
--- What was taken is these lines, each with its newline, and this one without one.
-pub record TakenAll (taken : Bytes) (lines : List Bytes) (line : Bytes) : Type 0 where
-  pub whole : All NoNewline (lines ++ line ∷ [])
-  pub split : taken ≡ flat_map with_newline lines ++ line
-
--- what was taken ends with this line, but for less bytes than these
-abbrev pub TakenTo : ℕ → Bytes → List Bytes → Bytes → Type 0
-TakenTo most taken lines line = TakenPast most taken (lines ++ line ∷ []) ⊎ TakenAll taken lines line
-
 -- These lines were answered, none of them with a last reply, and then this one with this reply, and so it came to this end: by
--- the reply, or by the merge slice behind it. What a crash may leave at each moment is told over these lines alone. Where the
+-- the reply, or by the merge slice after it. What a crash may leave at each moment is told over these lines alone. Where the
 -- reply is the last, but for `device`, each image that a crash may leave now stands for the state after it, its job apart: so the
 -- next run begins with it.
 pub record LastReply (kind : Kind) (ending : Ending) (reply : Reply) (start : State) (base : ℕ) (lines : List Bytes) (line : Bytes) (old new : World) : Type 0 where
@@ -75,18 +58,18 @@ pub record LastReply (kind : Kind) (ending : Ending) (reply : Reply) (start : St
   pub one_map : MapDialogue (state_map start) lines text (state_map now)
   pub last : State
   pub step : Step (HasCause old new) kind.filter_bytes now (request_of line) reply last
-  pub there : EndsThere (HasCause old new) kind.filter_bytes line reply last ending
+  pub there : ScriptEndsAt (HasCause old new) kind.filter_bytes line reply last ending
   pub reads : AreBounded (lines ++ line ∷ []) → new.seen.reads ≤ base + most + line_bound now (request_of line)
   pub output : new.beside.said ≡ old.beside.said ++ (text ++ text_of reply)
   pub crash : During (KeepsAcknowledged (HasCause old new) kind start (lines ++ line ∷ []) old.beside.said new.beside.said) old new
   pub stands : turn_of reply ≢ Onward → reply ≢ Device → EachImageStandsFor kind last new
 
--- this was the last reply, to a line behind which less than so many bytes were taken
+-- this was the last reply, to a line after which less than a given number of bytes were taken
 abbrev pub LastReplyTo : Kind → ℕ → Ending → Reply → State → ℕ → Bytes → World → World → Type 0
 LastReplyTo kind most ending reply start base taken old new =
     (lines : List Bytes) × (line : Bytes) × TakenTo most taken lines line × LastReply kind ending reply start base lines line old new
 
--- the same where the device failed: by `device`, be it behind the first pairs of a range, or by a merge slice behind the reply
+-- the same where the device failed: by `device`, be it after the first pairs of a range, or by a merge slice after the reply
 abbrev pub EndsAtDevice : Kind → ℕ → State → ℕ → Bytes → World → World → Type 0
 EndsAtDevice kind most start base taken old new = (reply : Reply) × LastReplyTo kind most AtDevice reply start base taken old new
 
@@ -115,7 +98,7 @@ pub record ReplyCutOffAt (kind : Kind) (start : State) (base : ℕ) (lines : Lis
   pub stands : reply ≢ Device → EachImageStandsFor kind last new
 
 -- The output failed: some first lines were answered whole, and of the next line's reply a prefix was said. That line has its
--- newline, or the input is at its end; less than one piece was taken behind it.
+-- newline, or the input is at its end; less than one piece was taken after it.
 pub record OutputFailed (kind : Kind) (start : State) (base : ℕ) (taken : Bytes) (old new : World) : Type 0 where
   pub lines : List Bytes
   pub line : Bytes

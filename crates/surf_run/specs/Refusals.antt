@@ -1,10 +1,10 @@
 -- How a line ends whose call of the store was refused.
 use Rattle.std.specs.Prelude.{Result, Ok, Err}
+use Rattle.lines_in.specs.declared.line_end.LineEnd.{LineEnd}
+use Rattle.lines_in.specs.declared.line_end.LineEnd.TheVariants.{End, Next}
+use Rattle.lines_in.specs.Statuses.{device_status, damaged_status}
 use Rattle.store_core.specs.declared.error.StoreError.{StoreError}
 use Rattle.store_core.specs.declared.error.StoreError.TheVariants as error
-use Rattle.surf_run.specs.declared.line_end.LineEnd.{LineEnd}
-use Rattle.surf_run.specs.declared.line_end.LineEnd.TheVariants.{End, Next}
-use Rattle.surf_run.specs.Statuses.{device_status, damaged_status}
 
 abbrev pub end_of_refusal : StoreError → LineEnd
 end_of_refusal error.Memory = Next

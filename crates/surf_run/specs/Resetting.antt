@@ -9,6 +9,9 @@ use Rattle.filter_api.specs.declared.settings.Settings.{Settings}
 use Rattle.image_model.specs.Stands.{StandsFor}
 use Rattle.key_base.specs.Limits.{last_epoch}
 use Rattle.line_model.specs.Replies.{Device, LastEpoch, Memory, Reply, text_of}
+use Rattle.lines_in.specs.Causes.{DiskFailed, WritesWithin}
+use Rattle.lines_in.specs.Unserved.{LastLine, Untouched}
+use Rattle.lines_in.specs.Statuses.{done_status, device_status, damaged_status, output_status, memory_status, store_status, last_epoch_status}
 use Rattle.manifest_model.specs.Slots.{IsNoStore, IsVersionOf}
 use Rattle.manifest_model.specs.Version.{Version}
 use Rattle.map_model.specs.SortedMap.{Bytes}
@@ -20,15 +23,12 @@ use Rattle.store_core.specs.Answers.{told_limit}
 use Rattle.store_core.specs.Resetting.{IsMade, bad_pages}
 use Rattle.store_core.specs.declared.error.StoreError.{StoreError}
 use Rattle.store_core.specs.declared.error.StoreError.TheVariants as error
-use Rattle.surf_run.specs.Causes.{DiskFailed, WritesWithin}
 use Rattle.surf_run.specs.Crash.{EachImageStandsFor}
 use Rattle.surf_run.specs.Formats.{bad_settings_text}
 use Rattle.surf_run.specs.Kind.{Kind}
 use Rattle.surf_run.specs.Open.{OpenMoves, no_store_text}
-use Rattle.surf_run.specs.Unserved.{LastLine, Untouched}
 use Rattle.surf_run.specs.declared.new_numbers.NewNumbers.{NewNumbers}
 use Rattle.surf_run.specs.declared.new_numbers.NewNumbers.TheVariants as new
-use Rattle.surf_run.specs.Statuses.{done_status, device_status, damaged_status, output_status, memory_status, store_status, last_epoch_status}
 
 -- ---- the numbers
 
@@ -47,7 +47,7 @@ abbrev pub AreInRange : NewNumbers → Type 0
 AreInRange (new.Settings settings) = InRange settings
 AreInRange (new.Pages pages) = Unit {0}
 
--- the number that is out of range for a store of so many pages
+-- the number that is out of range for a store of a given number of pages
 abbrev pub bad_number : NewNumbers → ℕ → Option Field
 bad_number (new.Settings settings) now = None
 bad_number (new.Pages pages) now = bad_pages now pages
@@ -67,7 +67,7 @@ done_text (new.Pages pages) = grown_text pages
 -- ---- what the run leaves
 
 -- The last line, by its status: over a store of a state, which has the new numbers then; at the last epoch; with a number that is
--- out of range for it; for want of memory; where a call of the device failed. In the second, third and fourth case nothing was written.
+-- out of range for it; for lack of memory; where a call of the device failed. In the second, third and fourth case nothing was written.
 abbrev pub IsResetText : Kind → NewNumbers → State → World → World → ℕ → Bytes → Type 0
 IsResetText kind numbers s old new status text =
     ((status ≡ done_status) × (bad_number numbers s.pages ≡ None) × (to : State) × (renumbered numbers s ≡ Ok to) × EachImageStandsFor kind to new × (text ≡ done_text numbers))
@@ -81,7 +81,7 @@ abbrev pub HasOldOrNewNumbers : Kind → NewNumbers → State → Image → Type
 HasOldOrNewNumbers kind numbers s image = StandsFor kind.spelling s image ⊎ IsMade (renumbered numbers s) (λ to. StandsFor kind.spelling to image)
 
 -- New numbers for a store of a state: its last line, and that nothing is taken; at each moment a crash leaves the state before or
--- the one with the new numbers; and nothing is written behind the pages of the store.
+-- the one with the new numbers; and nothing is written after the pages of the store.
 pub record ResetEnds (kind : Kind) (numbers : NewNumbers) (status : ℕ) (s : State) (old new : World) : Type 0 where
   pub line : LastLine (IsResetText kind numbers s old new) status old new
   pub input : new.beside.to_take ≡ old.beside.to_take
@@ -101,17 +101,17 @@ IsResetting status = (status ≡ done_status) ⊎ (status ≡ device_status) ⊎
 abbrev pub IsResetEnd : ℕ → Type 0
 IsResetEnd status = (status ≡ done_status) ⊎ (status ≡ memory_status) ⊎ (status ≡ store_status) ⊎ (status ≡ last_epoch_status)
 
--- ---- status 8, whatever stands on the device
+-- ---- status 8, whatever is on the device
 
--- this number is out of range for the store that stands there
+-- this number is out of range for the store that is there
 abbrev pub HasBadNumberFor : NewNumbers → Field → Image → Type 0
 HasBadNumberFor numbers field image = (v : Version) × IsVersionOf v image × (bad_number numbers v.pages ≡ Some field)
 
--- the version of the store that stands there has the last epoch
+-- the version of the store that is there has the last epoch
 abbrev pub IsInLastEpoch : Image → Type 0
 IsInLastEpoch image = (v : Version) × IsVersionOf v image × (v.epoch ≡ last_epoch)
 
--- no store stands there, or one for which a number is out of range; and where the output tells, the line says which
+-- no store is there, or one for which a number is out of range; and where the output tells, the line says which
 abbrev pub TellsWhich : Type 0 → NewNumbers → Image → World → World → Type 0
 TellsWhich Told numbers image old new =
     (IsNoStore image × (Told → new.beside.said ≡ old.beside.said ++ no_store_text))

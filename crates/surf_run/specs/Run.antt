@@ -5,6 +5,8 @@ use Rattle.disk_trait.specs.World.{World}
 use Rattle.filter_api.specs.Spellings.{Spelling}
 use Rattle.filter_api.specs.declared.settings.Field.{Field}
 use Rattle.line_model.specs.Replies.{Memory, text_of}
+use Rattle.lines_in.specs.Unserved.{Unserved}
+use Rattle.lines_in.specs.Statuses.{done_status, wrong_words_status, memory_status, store_status}
 use Rattle.map_model.specs.SortedMap.{Bytes}
 use Rattle.program_words.specs.Asked.{AreRefusedWords, HasBadNumber, IsHelp}
 use Rattle.program_words.specs.declared.asked.Asked.{Asked}
@@ -13,10 +15,8 @@ use Rattle.program_words.specs.declared.load.Load.{Load}
 use Rattle.program_words.specs.declared.new_store.NewStore.{NewStore}
 use Rattle.surf_run.specs.Formats.{Formatted, WritesInFront, bad_settings_text}
 use Rattle.surf_run.specs.Resetting.{AreInRange}
-use Rattle.surf_run.specs.Unserved.{Unserved}
 use Rattle.surf_run.specs.declared.new_numbers.NewNumbers.{NewNumbers}
 use Rattle.surf_run.specs.declared.new_numbers.NewNumbers.TheVariants as new
-use Rattle.surf_run.specs.Statuses.{done_status, wrong_words_status, memory_status, store_status}
 
 -- the line that wrong words get
 abbrev pub usage_text : Bytes
@@ -36,7 +36,7 @@ IsBadSettingsText field status text = ((status ≡ store_status) × (text ≡ ba
 abbrev pub IsHelpText : ℕ → Bytes → Type 0
 IsHelpText status text = (status ≡ done_status) ⊎ IsMemoryText status text
 
--- The store was made or refused, with nothing taken and nothing written behind the first log area's first gate; or there was no
+-- The store was made or refused, with nothing taken and nothing written after the first log area's first gate; or there was no
 -- memory to find out which one is wanted.
 abbrev pub FormatEnds : Spelling → NewStore → ℕ → World → World → Type 0
 FormatEnds spelling store status old new =

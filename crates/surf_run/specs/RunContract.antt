@@ -8,6 +8,9 @@ use Rattle.disk_trait.specs.World.{Now, World}
 use Rattle.filter_api.specs.declared.settings.Field.{Field}
 use Rattle.image_model.specs.Opening.{FirstDamage}
 use Rattle.image_model.specs.Stands.{IsStateOf}
+use Rattle.lines_in.specs.Causes.{EndsAt, IsServing, NoFall, StatusCause, WritesWithin, Completed, SomeFailed}
+use Rattle.lines_in.specs.Unserved.{Unserved}
+use Rattle.lines_in.specs.Statuses.{done_status, wrong_words_status, device_status, damaged_status, output_status, memory_status, store_status, last_epoch_status, findings_status}
 use Rattle.manifest.specs.NewManifest.{has_open}
 use Rattle.manifest_model.specs.Slots.{IsNoStore, IsVersionOf}
 use Rattle.manifest_model.specs.Version.{Version}
@@ -20,9 +23,9 @@ use Rattle.program_words.specs.declared.new_store.NewStore.{NewStore}
 use Rattle.program_words.specs.declared.new_store.Wanted.{Wanted}
 use Rattle.state_model.specs.State.{State}
 use Rattle.state_model.specs.View.{state_map}
-use Rattle.surf_run.specs.Causes.{EndsAt, IsServing, NoFall, RunMeetsDamage, StatusCause, WritesWithin}
+use Rattle.surf_run.specs.Causes.{RunMeetsDamage}
 use Rattle.surf_run.specs.Checks.{CheckEnds}
-use Rattle.surf_run.specs.ServedOrNot.{Completed, HasNoState, NoLineAnswered, OpenedThenServed, ServedOrNot, SomeFailed, TellsDamage}
+use Rattle.surf_run.specs.ServedOrNot.{HasNoState, NoLineAnswered, OpenedThenServed, ServedOrNot, TellsDamage}
 use Rattle.surf_run.specs.Kind.{Kind}
 use Rattle.surf_run.specs.Loads.{IsLoading, LoadEnds, Loads}
 use Rattle.surf_run.specs.MapCrash.{OneMapLasts}
@@ -30,10 +33,8 @@ use Rattle.surf_run.specs.Open.{IsOpeningText, OpensNothing}
 use Rattle.surf_run.specs.Resetting.{AskFor, IsInLastEpoch, IsResetEnd, IsResetting, OpenedThenReset, ResetEnds, TellsWhich}
 use Rattle.surf_run.specs.Run.{AskNothing, FormatEnds, IsBadSettingsText, IsHelpText, IsUsageText}
 use Rattle.table_file.specs.Faults.{filter_fault_of}
-use Rattle.surf_run.specs.Unserved.{Unserved}
 use Rattle.surf_run.specs.declared.new_numbers.NewNumbers.{NewNumbers}
 use Rattle.surf_run.specs.declared.new_numbers.NewNumbers.TheVariants as new_numbers
-use Rattle.surf_run.specs.Statuses.{done_status, wrong_words_status, device_status, damaged_status, output_status, memory_status, store_status, last_epoch_status, findings_status}
 
 -- A run by these words over a device and streams, with filters of this kind, of which bytes that are no filter break this rule
 -- first. Whether device, input and output tell their bytes is `tells`, `tells_input` and `tells_output`, and `world` is what
@@ -58,7 +59,7 @@ pub record RunContract {X : Type 0} (world : X → World) (tells tells_input tel
   pub complete :
       (s : State) → IsTrue tells → IsTrue tells_input → IsTrue tells_output → IsStateOf kind.spelling s (world old).seen.held
       → (SomeFailed (world old) (world new) → ⊥) → IsServe words → Completed status (world old) (world new)
-  -- For want of memory, and where no store stands, no byte of the input was taken.
+  -- For lack of memory, and where no store is, no byte of the input was taken.
   pub early : IsServe words → (status ≡ memory_status) ⊎ (status ≡ store_status) → (world new).beside.to_take ≡ (world old).beside.to_take
   -- A new store is made or refused, and says so; a number out of range is named, and nothing is touched.
   pub formatted :
@@ -78,11 +79,11 @@ pub record RunContract {X : Type 0} (world : X → World) (tells tells_input tel
   pub loads :
       (s : State) (load : Load) → IsTrue tells → IsTrue tells_output → IsStateOf kind.spelling s (world old).seen.held → IsLoadInRange words load
       → ((opened : X) × Loads kind status s load.seed load.count (world old) (world opened) (world new)) ⊎ NoLineAnswered status s (world old) (world new)
-  -- Where no call fails all steps are made, but for want of memory.
+  -- Where no call fails all steps are made, but for lack of memory.
   pub load_complete :
       (s : State) (load : Load) → IsTrue tells → IsTrue tells_output → IsStateOf kind.spelling s (world old).seen.held
       → (SomeFailed (world old) (world new) → ⊥) → IsLoadInRange words load → (status ≡ done_status) ⊎ (status ≡ memory_status)
-  -- And whatever stands there, no other comes than these.
+  -- And whatever is there, no other comes than these.
   pub load_statuses : (load : Load) → IsLoadInRange words load → IsLoading status ⊎ (status ≡ store_status)
   -- Of `settings` and `grow`, where each image that a crash might have left at the start stands for this state: at status 0 each one
   -- stands for the state with the new numbers, 10 comes at its last epoch, and what a crash may leave at each moment is the state
@@ -94,11 +95,11 @@ pub record RunContract {X : Type 0} (world : X → World) (tells tells_input tel
   pub resets :
       (s : State) (numbers : NewNumbers) → IsTrue tells → IsTrue tells_output → IsStateOf kind.spelling s (world old).seen.held → AskFor words numbers
       → ((opened : X) × OpenedThenReset kind numbers status s (world old) (world opened) (world new)) ⊎ NoLineAnswered status s (world old) (world new)
-  -- Where no call fails the numbers are set or refused, but for want of memory.
+  -- Where no call fails the numbers are set or refused, but for lack of memory.
   pub reset_complete :
       (s : State) (numbers : NewNumbers) → IsTrue tells → IsTrue tells_output → IsStateOf kind.spelling s (world old).seen.held
       → (SomeFailed (world old) (world new) → ⊥) → AskFor words numbers → IsResetEnd status
-  -- And whatever stands there, no other comes than these.
+  -- And whatever is there, no other comes than these.
   pub reset_statuses : (numbers : NewNumbers) → AskFor words numbers → IsResetting status
   -- Status 5 comes of them only where opening finds damage, and says the first.
   pub reset_at_damage :
@@ -121,17 +122,17 @@ pub record RunContract {X : Type 0} (world : X → World) (tells tells_input tel
   pub told_of_help : IsHelp words → EndsAt done_status status (world old) (world new)
   -- Words that are refused or answered, and numbers out of range: nothing is called but the output.
   pub untouched : AskNothing words → SayMoves (world old) (world new)
-  -- Status 5 comes only where opening finds damage, and says the first, or where no state stands and a block that was read shows
+  -- Status 5 comes only where opening finds damage, and says the first, or where no state is there and a block that was read shows
   -- the damage that was said, or that a merge slice met, of which nothing is said.
   pub only_at_damage :
       IsTrue tells → IsTrue tells_input → IsTrue tells_output → status ≡ damaged_status
       → TellsDamage kind.spelling first_fault (world old).seen.held (world old) (world new) ⊎ (HasNoState kind.spelling (world old).seen.held × RunMeetsDamage ((load : Load) × IsLoadInRange words load) (world old) (world new))
-  -- Of all but `format`, where no store stands or opening finds damage, no line is served, no step made and no number set: nothing is
+  -- Of all but `format`, where no store is there or opening finds damage, no line is served, no step made and no number set: nothing is
   -- taken or written, and the one last line says so, or `device` or `memory`.
   pub unopened :
       IsTrue tells → IsTrue tells_output → OpensNothing kind.spelling first_fault (world old).seen.held → OpensStore words
       → Unserved (IsOpeningText kind.spelling first_fault (world old).seen.held) status (world old) (world new)
-  -- Where a version opens, whether or not a state stands there, nothing changes beyond its pages: neither what the device reads as,
+  -- Where a version opens, whether or not a state is there, nothing changes beyond its pages: neither what the device reads as,
   -- nor what a crash may leave at any moment.
   pub within : (v : Version) → IsTrue tells → IsVersionOf v (world old).seen.held → OpensStore words → WritesWithin (page_bytes * v.pages) (world old) (world new)
   -- Where opening finds damage, the status says so, but for the device, memory and a last line that cannot be said.

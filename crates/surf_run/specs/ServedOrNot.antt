@@ -7,15 +7,13 @@ use Rattle.filter_api.specs.Spellings.{Spelling}
 use Rattle.image_model.specs.Opening.{FirstDamage}
 use Rattle.image_model.specs.Stands.{IsStateOf}
 use Rattle.line_model.specs.Replies.{Damaged, text_of}
+use Rattle.lines_in.specs.Unserved.{Unserved}
 use Rattle.map_model.specs.SortedMap.{Bytes}
 use Rattle.state_model.specs.State.{State}
-use Rattle.surf_run.specs.Causes.{DiskFailed, SayFailed, TakeFailed}
 use Rattle.surf_run.specs.Kind.{Kind}
 use Rattle.surf_run.specs.Open.{IsFreeText, OpenMoves}
 use Rattle.surf_run.specs.Outcome.{Outcome}
 use Rattle.table_file.specs.Faults.{filter_fault_of}
-use Rattle.surf_run.specs.Unserved.{Unserved}
-use Rattle.surf_run.specs.Statuses.{done_status, memory_status, limit_status}
 
 -- the reads before the first line: seven at most, and two for each table
 abbrev pub opening_bound : State → ℕ
@@ -34,19 +32,11 @@ pub record OpenedThenServed (kind : Kind) (status : ℕ) (start : State) (old op
   pub opens : OpenMoves old opened
   pub outcome : Outcome kind status start (old.seen.reads + opening_bound start) opened new
 
--- some call failed
-abbrev pub SomeFailed : World → World → Type 0
-SomeFailed old new = TakeFailed old new ⊎ DiskFailed old new ⊎ SayFailed old new
-
--- the input was read to its end or to `quit`, or 2^40 bytes of it were; or nothing was taken, since there was no memory
-abbrev pub Completed : ℕ → World → World → Type 0
-Completed status old new = (status ≡ done_status) ⊎ (status ≡ limit_status) ⊎ ((status ≡ memory_status) × (new.beside.to_take ≡ old.beside.to_take))
-
 -- the image is damaged, and the last line says where and how
 abbrev pub TellsDamage : Spelling → (Bytes → Fault) → Image → World → World → Type 0
 TellsDamage spelling first image old new =
     (d : Damage) × FirstDamage spelling (filter_fault_of first) image d × (new.beside.said ≡ old.beside.said ++ text_of (Damaged d))
 
--- no state stands there: what opens has damage in a block
+-- no state is there: what opens has damage in a block
 abbrev pub HasNoState : Spelling → Image → Type 0
 HasNoState spelling image = (s : State) → IsStateOf spelling s image → ⊥

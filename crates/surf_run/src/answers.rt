@@ -4,23 +4,21 @@ ghost use Rattle.std.specs.Option.{option_map};
 ghost use Rattle.line_model.specs.Requests.{Bad, Compact, Count, Del, Estimate, Explain, Flush, Get, Put, Quit, Range, Seek};
 ghost use Rattle.entry_model.specs.Entries.{IsEntry, entry_of};
 ghost use Rattle.line_model.specs.Replies.{Reply as LineReply, found};
+ghost use Rattle.lines_in.specs.declared.line_end.LineEnd.TheVariants.{End, Next};
+ghost use Rattle.lines_in.specs.Causes.{SayFailed};
+ghost use Rattle.lines_in.specs.Saying.{IsShort, Says, SaysBehind, end_by};
+ghost use Rattle.lines_in.specs.Statuses.{output_status};
 ghost use Rattle.outside.specs.Streams.{SayMoves};
 ghost use Rattle.state_model.specs.PlayLaws.{has_slice};
 ghost use Rattle.store_commands.specs.Asks.{asked};
 ghost use Rattle.store_commands.specs.Spoken.{spoken};
 ghost use Rattle.store_core.specs.Answers.{told, told_change, told_limit};
-ghost use Rattle.surf_run.specs.declared.line_end.LineEnd.TheVariants.{End, Next};
 ghost use Rattle.surf_run.specs.Answering.{AnswersLine, SaysOnward};
-ghost use Rattle.surf_run.specs.Causes.{SayFailed};
 ghost use Rattle.surf_run.specs.Kind.{filter_kind};
-ghost use Rattle.surf_run.specs.Saying.{IsShort, Says, SaysBehind, end_by};
 ghost use Rattle.surf_run.specs.Refusals.{end_of_change, end_of_refusal};
-ghost use Rattle.surf_run.specs.Statuses.{output_status};
 
-use crate::line_end::LineEnd;
-use crate::saying::{add_reply, say_behind, say_reply};
-use crate::status::Status;
 use filter_api::RangeFilter;
+use lines_in::{LineEnd, Status, add_reply, say_behind, say_reply};
 use outside::Outside;
 use store_commands::{Reply, Request};
 use store_core::{Limit, Store, StoreError};
@@ -81,7 +79,7 @@ fn say_refusal<W: Outside>(out: &mut W, buffer: &mut [u8], why: StoreError) -> L
     }
 }
 
-// Says what waits in the buffer, and why a call was refused behind it.
+// Says what waits in the buffer, and why a call was refused after it.
 fn say_refusal_behind<W: Outside>(
     out: &mut W,
     buffer: &mut [u8],

@@ -1,15 +1,14 @@
 //! A check of the whole store, finding by finding.
 ghost use Rattle.std.specs.Prelude.{◌≡◌, ◌⊎◌, ◌++◌, [], IsTrue};
+ghost use Rattle.lines_in.specs.Causes.{SayFailed};
+ghost use Rattle.lines_in.specs.Statuses.{findings_status, output_status};
 ghost use Rattle.outside.specs.Streams.{SayMoves, SaysPrefix};
-ghost use Rattle.surf_run.specs.Causes.{SayFailed};
 ghost use Rattle.surf_run.specs.Checks.{AreFound, ChangesNothing, CheckEnds, cut_off_status, cut_off_text, found_text};
-ghost use Rattle.surf_run.specs.Statuses.{findings_status, output_status};
 
 use crate::check_lines::{clean_line, finding_line, found_line};
 use crate::opening::NO_STORE;
-use crate::saying::{last_line, say_last};
-use crate::status::Status;
 use filter_api::RangeFilter;
+use lines_in::{Status, last_line, say_last};
 use outside::{Outside, say_all};
 use std::alloc::Global;
 use store_check::{Check, CheckError, Finding, SummaryError};

@@ -6,7 +6,7 @@ ghost use Rattle.surf_run.specs.Formats.{bad_settings_text, formatted_text};
 use arrayvec::ArrayVec;
 use filter_api::Field;
 
-/// That a store stands there.
+/// That a store is there.
 pub(crate) const ALREADY_A_STORE: &[u8] = b"already a store\n";
 
 // `formatted `, the digits of a number and a newline.
@@ -23,7 +23,7 @@ fn add(line: &mut ArrayVec<u8, FORMATTED_BYTES>, bytes: &[u8])
     }
 }
 
-/// That a store of so many pages was made.
+/// That a store of a given number of pages was made.
 pub(crate) fn formatted_line(pages: u64) -> ArrayVec<u8, FORMATTED_BYTES>
     ensures { result.items ≡ formatted_text pages }
 {

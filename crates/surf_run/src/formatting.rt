@@ -1,15 +1,14 @@
 //! A new store on the device, and the last line that tells how its making ended.
 ghost use Rattle.std.specs.Prelude.{◌≡◌, ◌≢◌, ◌⊎◌, ◌++◌, IsTrue};
+ghost use Rattle.lines_in.specs.Causes.{NoFall, SayFailed, StatusCause};
+ghost use Rattle.lines_in.specs.Statuses.{done_status, device_status, output_status, memory_status, store_status};
 ghost use Rattle.outside.specs.Streams.{SayMoves, SaysPrefix};
-ghost use Rattle.surf_run.specs.Causes.{NoFall, SayFailed, StatusCause};
 ghost use Rattle.surf_run.specs.FormatRefusals.{IsOfFormat, refused_status, refused_text};
 ghost use Rattle.surf_run.specs.Formats.{Formatted, WritesInFront, bad_settings_text, formatted_text};
-ghost use Rattle.surf_run.specs.Statuses.{done_status, device_status, output_status, memory_status, store_status};
 
 use crate::format_lines::{ALREADY_A_STORE, bad_settings_line, formatted_line};
-use crate::saying::{last_line, say_last};
-use crate::status::Status;
 use filter_api::{Field, RangeFilter, Settings};
+use lines_in::{Status, last_line, say_last};
 use outside::Outside;
 use std::alloc::Global;
 use store_commands::Reply;
@@ -25,7 +24,7 @@ pub(crate) fn say_bad_settings<W: Outside>(out: &mut W, field: Field) -> u8
     say_last(out, bad_settings_line(field), Status::Store as u8)
 }
 
-// Says that a store of so many pages was made.
+// Says that a store of a given number of pages was made.
 fn say_formatted<W: Outside>(out: &mut W, pages: u64) -> u8
     ensures said { IsTrue W.tells_output → result ≡ done_status → (W.world out.new).beside.said ≡ (W.world out.old).beside.said ++ formatted_text pages }
     ensures prefix { IsTrue W.tells_output → SaysPrefix (formatted_text pages) (W.world out.old).beside.said (W.world out.new).beside.said }
@@ -53,7 +52,7 @@ fn say_no_format<W: Outside>(out: &mut W, error: StoreError) -> u8
     }
 }
 
-/// Makes the device an empty store of so many pages, with filters by these settings, says how that ended, and answers the exit
+/// Makes the device an empty store of a given number of pages, with filters by these settings, says how that ended, and answers the exit
 /// status.
 ///
 /// | status | comes | said |
@@ -62,7 +61,7 @@ fn say_no_format<W: Outside>(out: &mut W, error: StoreError) -> u8
 /// | 4 | the device failed | `device` |
 /// | 6 | the output failed, whatever the device holds then | a prefix of the line |
 /// | 7 | there was no memory | `memory` |
-/// | 8 | a store stands there, or a number is out of range | `already a store`, `bad settings FIELD` |
+/// | 8 | a store is there, or a number is out of range | `already a store`, `bad settings FIELD` |
 pub(crate) fn run_format<F: RangeFilter, W: Outside>(
     alloc: Global,
     settings: Settings,

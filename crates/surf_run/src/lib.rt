@@ -8,11 +8,11 @@
 //! promise of the whole program: what was said is what one sorted map answers, at each moment a crash leaves the map after some
 //! first lines that have all that was acknowledged and none that was refused, and no more blocks are read than the filters of the
 //! tables admit. [`serve_line`] answers one line over an opened store, with the merge
-//! slice behind it.
+//! slice after it.
 //!
 //! A put makes two writes and two syncs, and where it does not fit the log a flush before; a get reads at most one block of
 //! each table that admits its key, and a closed seek one of each table that admits its range and one more for each entry of a
-//! deleted key that it passes. A range says its pairs as they are found, in pieces of the reply buffer. Behind each put and
+//! deleted key that it passes. A range says its pairs as they are found, in pieces of the reply buffer. After each put and
 //! delete comes a merge slice, where tables are to be merged: it reads at most eight blocks and writes at most one table, and
 //! nothing is said of it. All memory but the store's is taken before the first line. Not for more than one input.
 //!
@@ -29,22 +29,18 @@ mod crash_examples;
 mod format_lines;
 mod formatting;
 mod laws;
-mod line_end;
 mod lines;
 mod loading;
 mod new_numbers;
 mod one_line;
 mod opened;
 mod opening;
-mod pending;
 mod reset_lines;
 mod resetting;
-mod saying;
-mod status;
 mod top;
 
 pub use laws::{replies_are_of_the_map, runs_chain};
-pub use line_end::LineEnd;
+pub use lines_in::LineEnd;
 pub use new_numbers::NewNumbers;
 pub use one_line::serve_line;
 pub use top::run;

@@ -6,6 +6,8 @@ ghost use Rattle.entry_model.specs.Entries.{entry_of};
 ghost use Rattle.image_model.specs.Stands.{IsStateOf};
 ghost use Rattle.line_model.specs.Limits.{limit_of};
 ghost use Rattle.line_model.specs.Requests.{Seek};
+ghost use Rattle.lines_in.specs.Causes.{LineMoves, SayFailed, StatusCause, WritesWithin, SomeFailed};
+ghost use Rattle.lines_in.specs.Statuses.{done_status, damaged_status, output_status, memory_status, store_status};
 ghost use Rattle.load_gen.specs.Summary.{summary_of, summary_text};
 ghost use Rattle.manifest_model.specs.Slots.{IsNoStore, IsVersionOf};
 ghost use Rattle.manifest_model.specs.Version.{Version};
@@ -19,22 +21,19 @@ ghost use Rattle.store_core.specs.Counts.{IsCountRefusal};
 ghost use Rattle.store_core.specs.Getting.{IsUndamaged};
 ghost use Rattle.store_core.specs.Scans.{IsScanShown};
 ghost use Rattle.store_core.specs.Represents.{Represents};
-ghost use Rattle.surf_run.specs.Causes.{IfDevice, LineMoves, RunMeetsDamage, SayFailed, ShowsSomeDamage, StatusCause, WithinPages, WritesWithin};
-ghost use Rattle.surf_run.specs.ServedOrNot.{HasNoState, NoLineAnswered, SomeFailed, TellsDamage};
+ghost use Rattle.surf_run.specs.Causes.{IfDevice, RunMeetsDamage, ShowsSomeDamage, WithinPages};
+ghost use Rattle.surf_run.specs.ServedOrNot.{HasNoState, NoLineAnswered, TellsDamage};
 ghost use Rattle.surf_run.specs.Dialogue.{slice_blocks};
 ghost use Rattle.surf_run.specs.Kind.{filter_kind};
 ghost use Rattle.surf_run.specs.Loading.{IsChanged, IsStepped, LoadInvariant, MakesStep, StepCause, is_passed_over};
 ghost use Rattle.surf_run.specs.Loads.{IsLoading, LoadEnds, Loads, change_of};
 ghost use Rattle.surf_run.specs.Open.{OpeningEnds};
 ghost use Rattle.table_model.specs.Tables.{filter_bytes_of};
-ghost use Rattle.surf_run.specs.Statuses.{done_status, damaged_status, output_status, memory_status, store_status};
 
-use crate::line_end::LineEnd;
 use crate::one_line::{SLICE_BLOCKS, merge_slice};
 use crate::opening::{open_or_say, say_why};
-use crate::saying::say_last;
-use crate::status::Status;
 use filter_api::RangeFilter;
+use lines_in::{LineEnd, Status, say_last};
 use load_gen::{LINE_BYTES, LoadGen, LoadStep, Summary, spell_summary};
 use outside::Outside;
 use program_words::Load;
@@ -91,7 +90,7 @@ fn make_change<F: RangeFilter, W: Outside>(
     }
 }
 
-// Makes a step and the merge slice behind it. Of a slice nothing is said.
+// Makes a step and the merge slice after it. Of a slice nothing is said.
 fn make_step<F: RangeFilter, W: Outside>(
     store: &mut Store<F>,
     out: &mut W,
@@ -161,7 +160,7 @@ fn summarise<F: RangeFilter, W: Outside>(
     Ok(summary)
 }
 
-// Says the summary line of so many steps, of which so many were refused.
+// Says the summary line of a given number of steps, of which that many were refused.
 fn say_summary<W: Outside>(out: &mut W, summary: &Summary, count: u64, refused: u64) -> u8
     ensures said { IsTrue W.tells_output → result ≡ done_status → (W.world out.new).beside.said ≡ (W.world out.old).beside.said ++ summary_text count refused summary.now }
     ensures prefix { IsTrue W.tells_output → SaysPrefix (summary_text count refused summary.now) (W.world out.old).beside.said (W.world out.new).beside.said }
@@ -213,7 +212,7 @@ fn load_store<F: RangeFilter, W: Outside>(store: Store<F>, out: &mut W, load: Lo
     }
 }
 
-/// Opens the store, makes the steps of a load, each with a merge slice behind it, and says the summary of the map that is there
+/// Opens the store, makes the steps of a load, each with a merge slice after it, and says the summary of the map that is there
 /// then.
 pub(crate) fn open_and_load<F: RangeFilter, W: Outside>(
     alloc: Global,
@@ -227,7 +226,7 @@ pub(crate) fn open_and_load<F: RangeFilter, W: Outside>(
     // Where what the device reads as stands for this state: the same from the opening on.
     ensures answers { (s : State) → IsTrue W.tells → IsTrue W.tells_output → IsStateOf F.spelling s (W.world out.old).seen.held
         → ((opened : _) × Loads (filter_kind F.spelling F.built_cutoff) result s load.seed load.count (W.world out.old) (W.world opened) (W.world out.new)) ⊎ NoLineAnswered result s (W.world out.old) (W.world out.new) }
-    // Where no call fails all steps are made, but for want of memory.
+    // Where no call fails all steps are made, but for lack of memory.
     ensures complete { (s : State) → IsTrue W.tells → IsTrue W.tells_output → IsStateOf F.spelling s (W.world out.old).seen.held
         → (SomeFailed (W.world out.old) (W.world out.new) → ⊥) → (result ≡ done_status) ⊎ (result ≡ memory_status) }
     ensures causes { StatusCause result (W.world out.old) (W.world out.new) }

@@ -6,6 +6,6 @@ use filter_api::Settings;
 pub enum NewNumbers {
     /// These settings, for new tables.
     Settings(Settings),
-    /// So many pages.
+    /// A given number of pages.
     Pages(u64),
 }

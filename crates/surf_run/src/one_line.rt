@@ -1,4 +1,4 @@
-//! A line, answered, and the merge slice behind it.
+//! A line, answered, and the merge slice after it.
 ghost use Rattle.std.specs.Prelude.{◌≡◌, ◌<◌, ◌≤◌, true, false, length};
 ghost use Rattle.line_model.specs.Requests.{request_of};
 ghost use Rattle.state_model.specs.PlayLaws.{has_slice};
@@ -8,8 +8,8 @@ ghost use Rattle.surf_run.specs.Refusals.{end_of_change};
 ghost use Rattle.surf_run.specs.Slices.{MakesSlice, ServesLine};
 
 use crate::answers::{answer_request, bad_line, end_of};
-use crate::line_end::LineEnd;
 use filter_api::RangeFilter;
+use lines_in::LineEnd;
 use outside::Outside;
 use store_commands::{BadLine, Request, Scratch, parse_line};
 use store_core::{Store, StoreError, Tended};
@@ -20,14 +20,14 @@ const REPLY_BYTES: usize = 4_096;
 /// The blocks that a merge slice reads at most.
 pub(crate) const SLICE_BLOCKS: u32 = 8;
 
-// Whether a merge slice comes behind the line that asks this.
+// Whether a merge slice comes after the line that asks this.
 fn is_change(request: &Request<'_>) -> bool
     ensures { result ≡ has_slice (asked request.now) }
 {
     matches!(request, Request::Put { .. } | Request::Del { .. })
 }
 
-// How a line ends behind a merge slice.
+// How a line ends after a merge slice.
 fn end_of_slice(tended: Result<Tended, StoreError>) -> LineEnd
     ensures { result ≡ end_of_change tended }
 {
@@ -37,8 +37,8 @@ fn end_of_slice(tended: Result<Tended, StoreError>) -> LineEnd
     }
 }
 
-/// Goes on with the merge that runs, or begins one where some tables are to be merged, and reads at most so many blocks. Nothing is
-/// said of it: want of memory, of room or of an epoch is left for the next slice.
+/// Goes on with the merge that runs, or begins one where some tables are to be merged, and reads at most a given number of blocks. Nothing is
+/// said of it: lack of memory, of room or of an epoch is left for the next slice.
 pub(crate) fn merge_slice<F: RangeFilter, W: Outside>(
     store: &mut Store<F>,
     out: &mut W,
@@ -53,7 +53,7 @@ pub(crate) fn merge_slice<F: RangeFilter, W: Outside>(
     end_of_slice(tended)
 }
 
-// Answers a put or a delete, and makes the merge slice behind it once its reply was said.
+// Answers a put or a delete, and makes the merge slice after it once its reply was said.
 fn serve_change<F: RangeFilter, W: Outside>(
     store: &mut Store<F>,
     buffer: &mut [u8],
@@ -71,7 +71,7 @@ fn serve_change<F: RangeFilter, W: Outside>(
     }
 }
 
-// Answers what a line asks, with the merge slice behind it where one is due.
+// Answers what a line asks, with the merge slice after it where one is due.
 fn serve_request<F: RangeFilter, W: Outside>(
     store: &mut Store<F>,
     buffer: &mut [u8],
@@ -88,7 +88,7 @@ fn serve_request<F: RangeFilter, W: Outside>(
     answer_request(store, buffer, out, request)
 }
 
-/// Answers a line, its reply laid out in this buffer, and makes the merge slice behind it.
+/// Answers a line, its reply laid out in this buffer, and makes the merge slice after it.
 pub(crate) fn answer<F: RangeFilter, W: Outside>(
     store: &mut Store<F>,
     scratch: &mut Scratch,
@@ -106,11 +106,11 @@ pub(crate) fn answer<F: RangeFilter, W: Outside>(
     }
 }
 
-/// Answers a line, without its newline: its reply is said whole before it returns, or the run ends. Behind a put and a delete,
+/// Answers a line, without its newline: its reply is said whole before it returns, or the run ends. After a put and a delete,
 /// refused or not, comes a merge slice of eight blocks at most, of which nothing is said.
 ///
 /// `Quit` comes for `quit`; `End(4)` where the device failed, `End(5)` where what was read of it is damaged, be it in the merge
-/// slice, and `End(6)` where the output failed; else `Next`. The store may not be stopped, and is not stopped behind `Next` and
+/// slice, and `End(6)` where the output failed; else `Next`. The store may not be stopped, and is not stopped after `Next` and
 /// `Quit`. No memory but that of the store's changes.
 pub fn serve_line<F: RangeFilter, W: Outside>(
     store: &mut Store<F>,

@@ -1,28 +1,27 @@
-//! A store that stands on a device, opened and served.
+//! A store that is on a device, opened and served.
 ghost use Rattle.std.specs.Prelude.{◌≡◌, ◌≤◌, ◌⊎◌, ◌*◌, ℕ, [], false, IfOk, IsTrue, vec_len};
 ghost use Rattle.block_model.specs.Pages.{page_bytes};
 ghost use Rattle.disk_trait.specs.World.{Now};
 ghost use Rattle.image_model.specs.Stands.{IsStateOf};
 ghost use Rattle.key_base.specs.Limits.{piece_bytes};
+ghost use Rattle.lines_in.specs.Causes.{IsServing, NoFall, StatusCause, WritesWithin, Completed, SomeFailed};
+ghost use Rattle.lines_in.specs.Unserved.{Unserved};
+ghost use Rattle.lines_in.specs.Statuses.{damaged_status, memory_status, store_status};
 ghost use Rattle.manifest_model.specs.Slots.{IsNoStore, IsVersionOf};
 ghost use Rattle.manifest_model.specs.Version.{Version};
 ghost use Rattle.state_model.specs.State.{State};
-ghost use Rattle.surf_run.specs.Causes.{IsServing, NoFall, ShowsSomeDamage, StatusCause, WritesWithin};
-ghost use Rattle.surf_run.specs.ServedOrNot.{Completed, HasNoState, NoLineAnswered, OpenedThenServed, ServedOrNot, SomeFailed, TellsDamage};
+ghost use Rattle.surf_run.specs.Causes.{ShowsSomeDamage};
+ghost use Rattle.surf_run.specs.ServedOrNot.{HasNoState, NoLineAnswered, OpenedThenServed, ServedOrNot, TellsDamage};
 ghost use Rattle.surf_run.specs.Kind.{filter_kind};
 ghost use Rattle.surf_run.specs.Open.{IsFreeText, OpeningEnds};
 ghost use Rattle.surf_run.specs.Outcome.{Outcome};
 ghost use Rattle.surf_run.specs.Serving.{ServeInvariant};
-ghost use Rattle.surf_run.specs.Unserved.{Unserved};
-ghost use Rattle.surf_run.specs.Statuses.{damaged_status, memory_status, store_status};
 
-use crate::lines::serve;
+use crate::lines::StoreLines;
 use crate::opening::open_or_say;
-use crate::pending::Pending;
-use crate::saying::last_line;
-use crate::status::Status;
 use filter_api::RangeFilter;
-use key_base::PIECE_BYTES;
+use key_base::{MAX_LINE_BYTES, PIECE_BYTES};
+use lines_in::{Pending, Status, last_line, read_lines};
 use outside::Outside;
 use std::alloc::{AllocError, Global};
 use store_commands::{Reply, Scratch};
@@ -31,7 +30,7 @@ use store_core::Store;
 // What serving keeps in memory beside the store.
 #[derive(Drop)]
 struct Buffers {
-    pending: Pending,
+    pending: Pending<MAX_LINE_BYTES>,
     scratch: Scratch,
     reply: Vec<u8>,
     piece: Vec<u8>,
@@ -59,7 +58,7 @@ fn serve_store<F: RangeFilter, W: Outside>(alloc: Global, store: Store<F>, out: 
     requires { store.stopped ≡ false }
     ensures ends { (start : State) (base : ℕ) (first : _) → IsTrue W.tells → IsTrue W.tells_input → IsTrue W.tells_output
         → (W.world first).beside.to_take ≡ (W.world out.old).beside.to_take
-        → ServeInvariant (filter_kind F.spelling F.built_cutoff) start base [] [] store (W.world first) (W.world out.old)
+        → ServeInvariant (filter_kind F.spelling F.built_cutoff) start base [] store (W.world first) (W.world out.old)
         → Outcome (filter_kind F.spelling F.built_cutoff) result start base (W.world first) (W.world out.new) ⊎ Unserved IsFreeText result (W.world out.old) (W.world out.new) × ((W.world out.new).seen.reads ≤ (W.world out.old).seen.reads) }
     ensures shown { IsTrue W.tells → IsTrue W.tells_output → result ≡ damaged_status → ShowsSomeDamage (W.world out.new) }
     ensures statuses { IsServing result ⊎ (result ≡ damaged_status) ⊎ (result ≡ memory_status) }
@@ -70,16 +69,18 @@ fn serve_store<F: RangeFilter, W: Outside>(alloc: Global, store: Store<F>, out: 
 {
     match new_buffers(alloc) {
         Ok(buffers) => {
-            let mut store = store;
-            let mut buffers = buffers;
-            serve(
-                &mut store,
-                &mut buffers.pending,
-                &mut buffers.scratch,
-                &mut buffers.reply,
-                &mut buffers.piece,
-                out,
-            )
+            let Buffers {
+                mut pending,
+                scratch,
+                reply,
+                mut piece,
+            } = buffers;
+            let mut lines = StoreLines {
+                store,
+                scratch,
+                reply,
+            };
+            read_lines(&mut lines, &mut pending, &mut piece, out)
         }
         Err(_) => last_line(out, &Reply::Memory, Status::Memory as u8),
     }
@@ -103,9 +104,9 @@ pub(crate) fn open_and_serve<F: RangeFilter, W: Outside>(alloc: Global, out: &mu
     ensures counts { NoFall (W.world out.old) (W.world out.new) }
     // Where a version opens nothing changes beyond its pages.
     ensures within { (v : Version) → IsTrue W.tells → IsVersionOf v (W.world out.old).seen.held → WritesWithin (page_bytes * v.pages) (W.world out.old) (W.world out.new) }
-    // For want of memory, and where no store stands, nothing was taken.
+    // For lack of memory, and where no store is, nothing was taken.
     ensures early { (result ≡ memory_status) ⊎ (result ≡ store_status) → (W.world out.new).beside.to_take ≡ (W.world out.old).beside.to_take }
-    // Status 5 comes only where opening finds damage, and says the first, or where no state stands and a block that was read
+    // Status 5 comes only where opening finds damage, and says the first, or where no state is there and a block that was read
     // shows the damage that was said.
     ensures only_at_damage { IsTrue W.tells → IsTrue W.tells_input → IsTrue W.tells_output → result ≡ damaged_status
         → TellsDamage F.spelling F.first_fault (W.world out.old).seen.held (W.world out.old) (W.world out.new) ⊎ (HasNoState F.spelling (W.world out.old).seen.held × ShowsSomeDamage (W.world out.new)) }

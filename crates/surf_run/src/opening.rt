@@ -1,19 +1,18 @@
-//! A store that stands on a device, opened; and the last line of a run that ends without one.
+//! A store that is on a device, opened; and the last line of a run that ends without one.
 ghost use Rattle.std.specs.Prelude.{◌≡◌, ◌≤◌, ◌≢◌, ◌⊎◌, ◌++◌, ◌+◌, ℕ, false, IfErr, IfOk, IsTrue};
 ghost use Rattle.image_model.specs.Stands.{IsStateOf};
+ghost use Rattle.lines_in.specs.Causes.{LineMoves, SayFailed, StatusCause, WritesWithin};
+ghost use Rattle.lines_in.specs.Statuses.{device_status, damaged_status, output_status, memory_status, store_status};
 ghost use Rattle.manifest_model.specs.Slots.{IsNoStore, IsVersionOf};
 ghost use Rattle.outside.specs.Streams.{SayMoves, SaysPrefix};
 ghost use Rattle.state_model.specs.State.{State};
 ghost use Rattle.store_core.specs.Represents.{Represents};
-ghost use Rattle.surf_run.specs.Causes.{LineMoves, SayFailed, StatusCause, WritesWithin};
 ghost use Rattle.surf_run.specs.ServedOrNot.{NoLineAnswered, TellsDamage, opening_bound};
 ghost use Rattle.surf_run.specs.Open.{IsOpening, OpenMoves, OpeningEnds, OpensNothing, opening_status, opening_text};
 ghost use Rattle.table_model.specs.Tables.{filter_bytes_of};
-ghost use Rattle.surf_run.specs.Statuses.{device_status, damaged_status, output_status, memory_status, store_status};
 
-use crate::saying::{last_line, say_last};
-use crate::status::Status;
 use filter_api::RangeFilter;
+use lines_in::{Status, last_line, say_last};
 use outside::Outside;
 use std::alloc::Global;
 use store_commands::Reply;

@@ -6,7 +6,7 @@ ghost use Rattle.surf_run.specs.Resetting.{grown_text, settings_text};
 use arrayvec::ArrayVec;
 use filter_api::Settings;
 
-// A word, at most three numbers behind spaces, and a newline.
+// A word, at most three numbers after spaces, and a newline.
 const RESET_BYTES: usize = 128;
 
 // Adds some bytes; there is room for them.
@@ -36,7 +36,7 @@ pub(crate) fn settings_line(settings: Settings) -> ArrayVec<u8, RESET_BYTES>
     line
 }
 
-/// That the store has so many pages.
+/// That the store has a given number of pages.
 pub(crate) fn grown_line(pages: u64) -> ArrayVec<u8, RESET_BYTES>
     ensures { result.items ≡ grown_text pages }
 {

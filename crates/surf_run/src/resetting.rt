@@ -5,28 +5,27 @@ ghost use Rattle.disk_trait.specs.World.{Now, WriteMoves};
 ghost use Rattle.filter_api.specs.declared.settings.Field.{Field};
 ghost use Rattle.image_model.specs.Stands.{IsStateOf, StandsFor};
 ghost use Rattle.key_base.specs.Limits.{last_epoch};
+ghost use Rattle.lines_in.specs.Causes.{LineMoves, SayFailed, StatusCause, WritesWithin, SomeFailed};
+ghost use Rattle.lines_in.specs.Statuses.{done_status, device_status, damaged_status, output_status, store_status, last_epoch_status};
 ghost use Rattle.manifest_model.specs.Slots.{IsVersionOf};
 ghost use Rattle.manifest_model.specs.Version.{Version};
 ghost use Rattle.outside.specs.Streams.{SayMoves, SaysPrefix};
 ghost use Rattle.state_model.specs.State.{State};
 ghost use Rattle.store_core.specs.Represents.{Represents};
 ghost use Rattle.store_core.specs.Resetting.{IsResetRefusal, MayReset, Resets};
-ghost use Rattle.surf_run.specs.Causes.{LineMoves, SayFailed, StatusCause, WritesWithin};
 ghost use Rattle.surf_run.specs.Formats.{bad_settings_text};
 ghost use Rattle.surf_run.specs.Kind.{filter_kind};
 ghost use Rattle.surf_run.specs.Open.{OpenMoves, OpeningEnds};
 ghost use Rattle.surf_run.specs.Resetting.{AreInRange, IsInLastEpoch, IsOfReset, IsResetEnd, IsResetting, OpenedThenReset, ResetEnds, TellsWhich, bad_number, done_text, refusal_text, renumbered, reset_status};
-ghost use Rattle.surf_run.specs.ServedOrNot.{NoLineAnswered, SomeFailed, TellsDamage};
+ghost use Rattle.surf_run.specs.ServedOrNot.{NoLineAnswered, TellsDamage};
 ghost use Rattle.table_model.specs.Tables.{filter_bytes_of};
-ghost use Rattle.surf_run.specs.Statuses.{done_status, device_status, damaged_status, output_status, store_status, last_epoch_status};
 
 use crate::formatting::say_bad_settings;
 use crate::new_numbers::NewNumbers;
 use crate::opening::open_or_say;
 use crate::reset_lines::{grown_line, settings_line};
-use crate::saying::{last_line, say_last};
-use crate::status::Status;
 use filter_api::RangeFilter;
+use lines_in::{Status, last_line, say_last};
 use outside::Outside;
 use std::alloc::Global;
 use store_commands::Reply;
@@ -122,7 +121,7 @@ fn reset_store<F: RangeFilter, W: Outside>(store: Store<F>, out: &mut W, numbers
 /// | 5 | opening found damage | `damaged PART AT ..` |
 /// | 6 | the output failed, whatever the device holds then | a prefix of the line |
 /// | 7 | there was no memory | `memory` |
-/// | 8 | no store stands there, or the pages are fewer than it has or too many | `not a store`, `bad settings pages` |
+/// | 8 | no store is there, or the pages are fewer than it has or too many | `not a store`, `bad settings pages` |
 /// | 10 | the store is in its last epoch | `limit epoch` |
 pub(crate) fn open_and_reset<F: RangeFilter, W: Outside>(
     alloc: Global,
@@ -143,9 +142,9 @@ pub(crate) fn open_and_reset<F: RangeFilter, W: Outside>(
     ensures causes { StatusCause result (W.world out.old) (W.world out.new) }
     ensures only_at_damage { IsTrue W.tells → IsTrue W.tells_output → result ≡ damaged_status → TellsDamage F.spelling F.first_fault (W.world out.old).seen.held (W.world out.old) (W.world out.new) }
     ensures ending { OpeningEnds F.spelling F.first_fault W.tells W.tells_output result (W.world out.old) (W.world out.new) }
-    // Status 8: no store stands there, or one for which a number is out of range, and the line says which.
+    // Status 8: no store is there, or one for which a number is out of range, and the line says which.
     ensures at_eight { IsTrue W.tells → result ≡ store_status → TellsWhich (IsTrue W.tells_output) numbers (W.world out.old).seen.held (W.world out.old) (W.world out.new) }
-    // Status 10: the store that stands there is in its last epoch.
+    // Status 10: the store that is there is in its last epoch.
     ensures at_ten { IsTrue W.tells → result ≡ last_epoch_status → IsInLastEpoch (W.world out.old).seen.held }
     ensures statuses { IsResetting result }
     ensures moves { LineMoves (W.world out.old) (W.world out.new) }

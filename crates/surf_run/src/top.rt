@@ -3,21 +3,22 @@ ghost use Rattle.std.specs.Prelude.{◌≡◌, ◌⊎◌, ◌*◌, map, string_b
 ghost use Rattle.block_model.specs.Pages.{page_bytes};
 ghost use Rattle.disk_trait.specs.World.{Now};
 ghost use Rattle.image_model.specs.Stands.{IsStateOf};
+ghost use Rattle.lines_in.specs.Causes.{EndsAt, IsServing, NoFall, StatusCause, WritesWithin, Completed, SomeFailed};
+ghost use Rattle.lines_in.specs.Unserved.{Unserved};
+ghost use Rattle.lines_in.specs.Statuses.{done_status, wrong_words_status, damaged_status, memory_status, store_status, last_epoch_status, findings_status};
 ghost use Rattle.manifest_model.specs.Slots.{IsNoStore, IsVersionOf};
 ghost use Rattle.manifest_model.specs.Version.{Version};
 ghost use Rattle.outside.specs.Streams.{SayMoves};
 ghost use Rattle.state_model.specs.State.{State};
-ghost use Rattle.surf_run.specs.Causes.{EndsAt, IsServing, NoFall, RunMeetsDamage, StatusCause, WritesWithin};
+ghost use Rattle.surf_run.specs.Causes.{RunMeetsDamage};
 ghost use Rattle.surf_run.specs.Checks.{CheckEnds};
-ghost use Rattle.surf_run.specs.ServedOrNot.{Completed, HasNoState, NoLineAnswered, OpenedThenServed, ServedOrNot, SomeFailed, TellsDamage};
+ghost use Rattle.surf_run.specs.ServedOrNot.{HasNoState, NoLineAnswered, OpenedThenServed, ServedOrNot, TellsDamage};
 ghost use Rattle.surf_run.specs.Kind.{filter_kind};
 ghost use Rattle.surf_run.specs.Loads.{IsLoading, LoadEnds, Loads};
 ghost use Rattle.surf_run.specs.Open.{OpeningEnds};
 ghost use Rattle.surf_run.specs.RunContract.{RunContract};
 ghost use Rattle.surf_run.specs.Resetting.{IsInLastEpoch, IsResetEnd, IsResetting, OpenedThenReset, ResetEnds, TellsWhich};
 ghost use Rattle.surf_run.specs.Run.{FormatEnds, HasSettingsInRange, IfBadSettings, IfCheck, IfFormat, IfHelp, IfLoad, IfOpens, IfOpensWithoutGrowing, IfRefused, IfReset, IfServe, IfUnserved, IsBadSettingsText, IsCheckAsk, IsHelpText, IsLoadAsk, IsMemoryText, IsRefusedAsk, IsResetAsk, IsUsageText};
-ghost use Rattle.surf_run.specs.Unserved.{Unserved};
-ghost use Rattle.surf_run.specs.Statuses.{done_status, wrong_words_status, damaged_status, memory_status, store_status, last_epoch_status, findings_status};
 
 use crate::checking::run_check;
 use crate::formatting::{run_format, say_bad_settings};
@@ -25,9 +26,8 @@ use crate::loading::open_and_load;
 use crate::new_numbers::NewNumbers;
 use crate::opened::open_and_serve;
 use crate::resetting::open_and_reset;
-use crate::saying::{last_line, say_last};
-use crate::status::Status;
 use filter_api::RangeFilter;
+use lines_in::{Status, last_line, say_last};
 use outside::Outside;
 use program_words::{Asked, read_words};
 use std::alloc::Global;
@@ -103,7 +103,7 @@ fn run_asked<F: RangeFilter, W: Outside>(alloc: Global, asked: Asked, out: &mut 
 /// Does what the words say over a device, an input and an output, with filters of this kind, and answers the exit status.
 ///
 /// `format` makes the device an empty store. `serve` opens the store on the device and answers the lines of the input, each
-/// reply said before the next line is begun. `load` opens it too, makes its steps, each as a line would with a merge slice behind
+/// reply said before the next line is begun. `load` opens it too, makes its steps, each as a line would with a merge slice after
 /// it, and says one line of the map that is then there. `settings` and `grow` open it, give it new numbers and say them. `check`
 /// reads all of it, says what is wrong and changes nothing. Help and the version are said with status 0.
 ///

@@ -82,7 +82,7 @@ pub others_sound : (now : Option Entry) (before later : List Entry) → MatchOpt
 others_sound None before later m all = subst (AllByRecursion IsEntry) (sym m.1) tt
 others_sound (Some e) before later m all = (subst (AllByRecursion IsEntry) m all).1
 
--- ---- a step of a walk whose key stands in a buffer
+-- ---- a step of a walk whose key is in a buffer
 
 -- it came by the first of the entries that were to come
 abbrev pub CameBy : EntryWalk → EntryWalk → Option (Option ValuePlace) → Bytes → Bytes → Bytes → Type 0

@@ -70,7 +70,7 @@ pub pages_more : (rows : List BlockRow) (row : BlockRow) → row_pages (rows_see
 pages_more [] row = refl
 pages_more (r ∷ rows) row = omega (arith, pages_of_cons r (rows ++ row ∷ []), pages_of_cons r rows, pages_more rows row)
 
--- a row more stands behind the others
+-- a row more is after the others
 pub stand_more : (page : ℕ) (rows : List BlockRow) (row : BlockRow) → StandFrom page rows → row.first ≡ page + row_pages (rows_seen rows) → StandFrom page (rows ++ row ∷ [])
 stand_more page [] row stand is = (omega (arith, is), tt)
 stand_more page (r ∷ rows) row stand is = (stand.0, stand_more (page + r.pages) rows row stand.1 (omega (arith, is, pages_of_cons r rows)))

@@ -86,7 +86,7 @@ module _ (spelling : Spelling) (built_cutoff : ℕ → List Leaf → ℕ) (setti
       let there = stands_shown spelling built_cutoff settings entries count blocks index index_bytes_there filter filter_there parts level first (4096 * first) refl image shown in
       (there.0, there.1, sym (ap (λ (t : Table). t.entries) there.2)))
 
-  -- where the parts are written, the table that is made of them stands
+  -- where the parts are written, the table that is made of them is there
   pub made_stands : SpellsOne spelling → (image : Image) → AreWritten row entries bytes image
       → StandsWith spelling (record { row = row; index = index_of entries; filter = filter_of built_cutoff settings (keys_of entries) }) entries image
   made_stands one image are =

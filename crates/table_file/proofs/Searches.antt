@@ -21,7 +21,7 @@ use Rattle.disk_trait.specs.Image.{Image}
 use Rattle.disk_trait.specs.World.{World}
 use Rattle.filter_model.specs.Answers.{point}
 use Rattle.block_model.specs.Places.{byte_of_page}
-use Rattle.table_file.specs.Faults.{HasReadCause, IsNoWant, IsOtherSum}
+use Rattle.table_file.specs.Faults.{HasReadCause, IsNotMemory, IsOtherSum}
 use Rattle.table_file.specs.Opened.{Opened}
 use Rattle.table_file.specs.Search.{IsBrokenBlock, IsDamagedBlock, IsGetFault, IsOtherBlock, block_for, block_of_key, bytes_at, first_block, page_at, row_at}
 use Rattle.table_file.specs.declared.fault.TableFault.{TableFault}
@@ -149,8 +149,8 @@ damaged_cause t n at bytes old new table.Memory is = absurd is
 damaged_cause t n at bytes old new (table.Device cause) is = absurd is
 damaged_cause t n at bytes old new (table.Damaged d) is = tt
 
-pub damaged_taken : (t : Opened) (n : ℕ) (bytes : Bytes) (f : TableFault) → IsDamagedBlock t n bytes f → IsNoWant f
-damaged_taken t n bytes table.Memory is = absurd is
-damaged_taken t n bytes (table.Device cause) is = absurd is
-damaged_taken t n bytes (table.Damaged d) (inl is) = (bytes, byte_of_page (page_at t n), (row_at t.index.rows n).sum, inl is)
-damaged_taken t n bytes (table.Damaged d) (inr is) = (bytes, byte_of_page (page_at t n), (row_at t.index.rows n).sum, inr is.1)
+pub damaged_never_memory : (t : Opened) (n : ℕ) (bytes : Bytes) (f : TableFault) → IsDamagedBlock t n bytes f → IsNotMemory f
+damaged_never_memory t n bytes table.Memory is = absurd is
+damaged_never_memory t n bytes (table.Device cause) is = absurd is
+damaged_never_memory t n bytes (table.Damaged d) (inl is) = (bytes, byte_of_page (page_at t n), (row_at t.index.rows n).sum, inl is)
+damaged_never_memory t n bytes (table.Damaged d) (inr is) = (bytes, byte_of_page (page_at t n), (row_at t.index.rows n).sum, inr is.1)

@@ -1,4 +1,4 @@
--- What is read of a table that stands on the device, block by block, key by key and in a walk.
+-- What is read of a table that is on the device, block by block, key by key and in a walk.
 use Rattle.std.proofs.Common.{◌≡◌, ◌≤◌, ◌<◌, ◌+◌, ◌*◌, ◌-◌, ℕ, suc, Bool, true, false, cond, not, List, [], ◌∷◌, ◌++◌, length, drop, get_or, refl, sym, ap, ap₂, ◌∙◌, subst, arith, inl, inr, append-nil}
 use Rattle.std.specs.Prelude.{Option, Some, None, map, nat_lt, ◌&&◌, is_some}
 use Rattle.std.specs.Option.{option_map}

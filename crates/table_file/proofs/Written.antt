@@ -1,4 +1,4 @@
--- Three pieces that are written one behind the other stand there.
+-- Three pieces that are written one after the other are there.
 use Rattle.std.proofs.Common.{◌≡◌, ◌+◌, ◌-◌, ◌*◌, ℕ, List, length, refl, sym, ap, ◌∙◌, subst, arith, inl, length-append}
 use Rattle.std.proofs.lemmas.List.{length-replicate}
 use Rattle.std.specs.Prelude.{IfErr, Result, replicate}

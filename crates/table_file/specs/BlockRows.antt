@@ -17,7 +17,7 @@ rows_seen rows = map row_seen rows
 abbrev pub lasts : List BlockRow → List Bytes
 lasts rows = map (λ (row : BlockRow). row.last.items) rows
 
--- the blocks stand one after the other, so many pages before the first
+-- the blocks are one after the other, a given number of pages before the first
 abbrev pub StandFrom : ℕ → List BlockRow → Type 0
 StandFrom page [] = Unit {0}
 StandFrom page (row ∷ later) = (row.first ≡ page) × StandFrom (page + row.pages) later
@@ -33,7 +33,7 @@ pub record AreRowsOf (rows : List BlockRow) (bytes : Bytes) : Type 0 where
 abbrev pub unsummed_row_of : List Entry → IndexRow
 unsummed_row_of block = record { pages = block_pages block; sum = 0; last = last_key block }
 
--- the rows of the blocks that these bytes are, the first so many with their sums
+-- the rows of the blocks that these bytes are, the first n with their sums
 abbrev pub summed_rows : ℕ → List IndexRow → Bytes → List IndexRow
 summed_rows zero rows bytes = rows
 summed_rows (suc more) [] bytes = []

@@ -23,7 +23,7 @@ abbrev pub closed_in : List IndexRow → Bytes → List (List Entry)
 closed_in [] bytes = []
 closed_in (row ∷ later) bytes = block_in (take (page_bytes * row.pages) bytes) ∷ closed_in later (drop (page_bytes * row.pages) bytes)
 
--- some blocks, and behind them the open one where it has an entry
+-- some blocks, and after them the open one where it has an entry
 abbrev pub with_open : List (List Entry) → List Entry → List (List Entry)
 with_open closed [] = closed
 with_open closed (entry ∷ more) = closed ++ (entry ∷ more) ∷ []

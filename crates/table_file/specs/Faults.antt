@@ -29,12 +29,12 @@ abbrev pub IsShape : Option Fault → PartFault → Type 0
 IsShape first index.Memory = ⊥
 IsShape first (index.Shape place rule) = first ≡ Some (fault place rule)
 
--- want of memory is free
+-- lack of memory is free
 abbrev pub IsIndexFault : Option Fault → PartFault → Type 0
 IsIndexFault first index.Memory = Unit {0}
 IsIndexFault first (index.Shape place rule) = first ≡ Some (fault place rule)
 
--- the place is one of so many bytes, or just behind them
+-- the place is one of a given number of bytes, or just after them
 abbrev pub IsPlaceWithin : ℕ → PartFault → Type 0
 IsPlaceWithin bytes index.Memory = Unit {0}
 IsPlaceWithin bytes (index.Shape place rule) = place ≤ bytes
@@ -53,7 +53,7 @@ IsNoDevice table.Memory = Unit {0}
 IsNoDevice (table.Device cause) = ⊥
 IsNoDevice (table.Damaged d) = Unit {0}
 
--- this damage, or want of memory
+-- this damage, or lack of memory
 abbrev pub IsDamage : Option Damage → TableFault → Type 0
 IsDamage first table.Memory = Unit {0}
 IsDamage first (table.Device cause) = ⊥
@@ -71,10 +71,10 @@ IsBlockDamage d = (bytes : Bytes) × (at : ℕ) × (kept : ℕ)
     × (IsOtherSum part.Block at kept bytes (table.Damaged d) ⊎ (option_map (λ (f : Fault). damage.Shape part.Block (at + f.place) f.rule) (block_fault bytes) ≡ Some d))
 
 -- the device or a damage of a block, and not memory
-abbrev pub IsNoWant : TableFault → Type 0
-IsNoWant table.Memory = ⊥
-IsNoWant (table.Device cause) = Unit {0}
-IsNoWant (table.Damaged d) = IsBlockDamage d
+abbrev pub IsNotMemory : TableFault → Type 0
+IsNotMemory table.Memory = ⊥
+IsNotMemory (table.Device cause) = Unit {0}
+IsNotMemory (table.Damaged d) = IsBlockDamage d
 
 -- the fault that the definitions of tables speak of
 abbrev pub filter_fault_of : (Bytes → Fault) → Bytes → FilterFault

@@ -1,4 +1,4 @@
--- The laws of tables that are opened, and of tables that stand on a device.
+-- The laws of tables that are opened, and of tables that are on a device.
 use Rattle.std.specs.Prelude.{◌≡◌, ◌<◌, ◌-◌, ℕ, not, ◌&&◌, List, [], length, slice_index_or, Some, None, is_some}
 use Rattle.byte_fields.specs.declared.parts.Row.{Row}
 use Rattle.disk_trait.specs.Image.{Image, Torn}
@@ -33,7 +33,7 @@ OpenedStands =
 abbrev pub WrittenIsShown : Type 0
 WrittenIsShown = (row : Row) (entries : List Entry) (filter_bytes : Bytes) (image : Image) → AreWritten row entries filter_bytes image → ArePartsShown row entries filter_bytes image
 
--- ---- a table that stands there
+-- ---- a table that is there
 
 -- Its blocks are read as they are, and no read of one is damage.
 pub record BlocksAreRead (t : Opened) (blocks : List (List Entry)) (image : Image) : Type 0 where

@@ -23,7 +23,7 @@ pub use Rattle.map_model.specs.SortedMap
 pub mod BeforeLast
 pub mod BlockRows
 pub mod Building
-pub mod Ends
+pub mod Lends
 pub mod Faults
 pub mod Laws
 pub mod Opened

@@ -1,4 +1,4 @@
--- A table that is opened: its row, its index and its filter, and what must stand in its pages.
+-- A table that is opened: its row, its index and its filter, and what must be in its pages.
 use Rattle.std.specs.Prelude.{◌≡◌, length, None}
 use Rattle.byte_fields.specs.Sums.{fnv_of}
 use Rattle.byte_fields.specs.declared.parts.Row.{Row}

@@ -38,7 +38,7 @@ block_of_key index key = if is_from index.least key then first_block index.rows 
 abbrev pub block_for : Opened → Bytes → Option ℕ
 block_for t key = if point t.filter.hash_bits t.filter.real_bits t.filter.leaves key then block_of_key t.index key else None
 
--- the table of these blocks stands on the device, and this is it, opened
+-- the table of these blocks is on the device, and this is it, opened
 pub record StandsThere (spelling : Spelling) (t : Opened) (blocks : List (List Entry)) (image : Image) : Type 0 where
   pub at : IsTableAt spelling t.row blocks image
   pub index_is : t.index ≡ index_of_pieces at.pieces

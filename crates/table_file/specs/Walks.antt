@@ -12,12 +12,12 @@ use Rattle.block_format.specs.Walking.{kept_from}
 use Rattle.table_model.specs.Damage.{block_part}
 use Rattle.table_file.specs.Opened.{Opened}
 
--- what the bytes of the blocks spell that have these rows, one behind the other from this page on
+-- what the bytes of the blocks spell that have these rows, one after the other from this page on
 abbrev pub blocks_there : ℕ → List IndexRow → Image → List (List Entry)
 blocks_there page [] image = []
 blocks_there page (row ∷ later) image = block_in (block_part page row image) ∷ blocks_there (page + row.pages) later image
 
--- so with the blocks of a table, whatever stands on the device
+-- so with the blocks of a table, whatever is on the device
 abbrev pub blocks_on : Opened → Image → List (List Entry)
 blocks_on t image = blocks_there t.row.first_page t.index.rows image
 
@@ -26,7 +26,7 @@ abbrev pub most_block_pages : List IndexRow → ℕ
 most_block_pages [] = 0
 most_block_pages (row ∷ later) = max row.pages (most_block_pages later)
 
--- Where a walk stands: its bound until a block was read, the block that is read next, the entry at hand, and those of the
+-- Where a walk is: its bound until a block was read, the block that is read next, the entry at hand, and those of the
 -- last block that are still to come; and for how many pages of a block it has room.
 pub record CursorWalk : Type 0 where
   pub room : ℕ
@@ -54,7 +54,7 @@ walk_from t low = record {
   later = [];
 }
 
--- the next step reads a block, in a table of so many
+-- the next step reads a block, in a table of that many
 abbrev pub is_due : CursorWalk → ℕ → Bool
 is_due walk blocks = length walk.later == 0 && nat_lt walk.block blocks
 

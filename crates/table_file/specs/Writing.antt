@@ -1,4 +1,4 @@
--- What stands on a device when the parts of a table are written, and which call of it failed.
+-- What is on a device when the parts of a table are written, and which call of it failed.
 use Rattle.std.specs.Prelude.{◌≡◌, ◌⊎◌, ℕ, ◌+◌, ◌++◌, List, length}
 use Rattle.disk_trait.specs.Fault.{IsFaultOf}
 use Rattle.disk_trait.specs.Image.{Image, Shows, overwritten}
@@ -22,7 +22,7 @@ use Rattle.table_file.specs.Opened.{Opened}
 use Rattle.table_file.specs.Parts.{filter_of}
 use Rattle.table_file.specs.Search.{StandsThere}
 
--- bytes, and zero bytes behind them to the end of their last page
+-- bytes, and zero bytes after them to the end of their last page
 abbrev pub in_whole_pages : Bytes → Bytes
 in_whole_pages bytes = bytes ++ padding (length bytes)
 
@@ -43,11 +43,11 @@ made_row spelling built_cutoff built level first_page = row_for level first_page
 abbrev pub opened_of : (ℕ → List Leaf → ℕ) → Built → Row → Opened
 opened_of built_cutoff built row = record { row = row; index = index_of built.entries; filter = filter_of built_cutoff built.settings (keys_of built.entries) }
 
--- an opened table stands on the device, with these entries
+-- an opened table is on the device, with these entries
 abbrev pub StandsWith : Spelling → Opened → List Entry → Image → Type 0
 StandsWith spelling t entries image = (blocks : List (List Entry)) × StandsThere spelling t blocks image × (joined blocks ≡ entries)
 
--- three pieces written one behind the other
+-- three pieces written one after the other
 abbrev pub three_written : Image → ℕ → Bytes → Bytes → Bytes → Image
 three_written image at first second third =
     overwritten (overwritten (overwritten image at first) (at + length first) second) (at + length first + length second) third

@@ -1,6 +1,6 @@
 //! What an index keeps of its blocks.
 
-/// What an index says of a block, and where the block stands.
+/// What an index says of a block, and where the block is.
 #[derive(Drop)]
 pub(crate) struct BlockRow {
     /// The pages of the blocks before it.

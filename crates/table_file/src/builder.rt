@@ -75,7 +75,7 @@ impl TableBuilder {
         }
     }
 
-    /// No entry, and room for blocks of so many pages, where there is memory for them: they need not be moved as they grow.
+    /// No entry, and room for blocks of a given number of pages, where there is memory for them: they need not be moved as they grow.
     pub fn with_room(alloc: Global, settings: Settings, pages: u32) -> Self
         requires { InRange settings }
         ensures { result ≡ record { settings = settings; entries = [] } }
@@ -92,7 +92,7 @@ impl TableBuilder {
 
     /// Adds an entry, `None` for a tombstone's value. The key has 1 to 1,024 bytes and is
     /// [above all others](TableBuilder::is_above_all), the value at most 1,048,576 bytes. Without memory nothing is added, and
-    /// none behind 2^32 - 1 others, since a row counts them in four bytes.
+    /// none after 2^32 - 1 others, since a row counts them in four bytes.
     ///
     /// It copies the key and the value.
     pub fn add(&mut self, key: &[u8], value: Option<&[u8]>) -> Result<(), AllocError>
@@ -192,7 +192,7 @@ impl TableBuilder {
     }
 }
 
-// No byte, and room for so many pages, where there is memory for them.
+// No byte, and room for a given number of pages, where there is memory for them.
 fn room_for(alloc: Global, pages: u32) -> Vec<u8>
     ensures { result.items ≡ [] }
 {

@@ -7,18 +7,18 @@ ghost use Rattle.entry_model.specs.Entries.{IsEntry, entry_of};
 ghost use Rattle.block_model.specs.BlockReading.{block_in};
 ghost use Rattle.block_model.specs.Places.{byte_of_page};
 ghost use Rattle.block_format.specs.Walking.{kept_from};
-ghost use Rattle.table_file.specs.Faults.{HasReadCause, IsNoWant};
+ghost use Rattle.table_file.specs.Faults.{HasReadCause, IsNotMemory};
 ghost use Rattle.table_file.specs.Search.{IsGetFault, IsSoundBlock, bytes_at, page_at};
 ghost use Rattle.table_file.specs.Walks.{BeginsWell, HandsOut, IsSettled, WalkGoesOn, blocks_on, first_of, is_due, most_block_pages, others_of, to_come};
 
+use crate::block_buffer::HeldBlock;
 use crate::fault::TableFault;
-use crate::held_block::HeldBlock;
 use crate::table::Table;
 use disk_trait::Disk;
 use filter_api::RangeFilter;
 use std::marker::Model;
 
-/// A walk over the entries of a table from a bound on, seen as where it stands. It keeps a buffer for one block and one for a key, and borrows
+/// A walk over the entries of a table from a bound on, seen as where it is. It keeps a buffer for one block and one for a key, and borrows
 /// no table: each call is handed the same one.
 #[derive(Drop)]
 pub struct TableCursor {
@@ -40,7 +40,7 @@ impl Model for TableCursor {
 }
 
 impl TableCursor {
-    ghost use Rattle.table_file.specs.Ends.{cursor_ends};
+    ghost use Rattle.table_file.specs.Lends.{cursor_ends};
 
     /// A walk from a bound on that begins at a block.
     pub(crate) fn new(low: Vec<u8>, block: u32, held: HeldBlock) -> TableCursor
@@ -66,7 +66,7 @@ impl TableCursor {
     /// Goes on to the next entry, and answers whether there is one: it is then at hand. No memory.
     ///
     /// Reads exactly where a block is [`due`](TableCursor::due), and then one; where the first block has no entry from the
-    /// bound on, which no sound table has, the one after it too. At `Err` it stands where it stood, and none is at hand.
+    /// bound on, which no sound table has, the one after it too. At `Err` it is where it stood, and none is at hand.
     //
     // It goes into its callers: where one has asked whether a block is due, it is not asked again.
     #[inline(always)]
@@ -86,7 +86,7 @@ impl TableCursor {
         ensures goes_on { WalkGoesOn self.old self.new }
         ensures one { IsTrue D.tells → BeginsWell self.old (blocks_on table.now (D.world disk.old).seen.held) → OnOk result (self.new.block ≡ self.old.block + (if is_due self.old (length table.now.index.rows) then 1 else 0)) }
         ensures sound { (n : ℕ) → IsTrue D.tells → self.old.block ≤ n → n < self.new.block → IsSoundBlock table.now n (D.world disk.old).seen.held }
-        ensures taken { IfErr result IsNoWant }
+        ensures never_memory { IfErr result IsNotMemory }
         ensures there { OnErr result (self.new.block < length table.now.index.rows) }
         ensures cause { IfErr result (HasReadCause (byte_of_page (page_at table.now self.new.block)) (D.world disk.old) (D.world disk.new)) }
         ensures fault { IsTrue D.tells → IfErr result (IsGetFault table.now self.new.block (D.world disk.old).seen.held) }
@@ -120,7 +120,7 @@ impl TableCursor {
             × (IsTrue D.tells → BeginsWell self.old (blocks_on table.now (D.world disk.old).seen.held) → OnOk result (walk.block ≡ self.old.block + (if is_due self.old (length table.now.index.rows) then 1 else 0))))) }
         ensures sound { IfOk result (λ found. IfSome found (λ f. IsEntry (entry_of f.0.now (option_map (λ v. v.now) f.1)))) }
         ensures idle { is_due self.old (length table.now.index.rows) ≡ false → IsOk result × ReadMoves 0 (D.world disk.old) (D.world disk.new) }
-        ensures taken { IfErr result IsNoWant }
+        ensures never_memory { IfErr result IsNotMemory }
         ensures cause { IfErr result (λ why. (n : ℕ) × (self.old.block ≤ n) × (n < length table.now.index.rows) × HasReadCause (byte_of_page (page_at table.now n)) (D.world disk.old) (D.world disk.new) why) }
         ensures fault { IsTrue D.tells → IfErr result (λ why. (n : ℕ) × (self.old.block ≤ n) × (n < length table.now.index.rows) × IsGetFault table.now n (D.world disk.old).seen.held why) }
         ensures moves { ReadMoves 2 (D.world disk.old) (D.world disk.new) }
@@ -160,7 +160,7 @@ impl TableCursor {
         ensures goes_on { WalkGoesOn self.old self.new }
         ensures one { IsTrue D.tells → is_due self.old (length table.now.index.rows) ≡ true → BeginsWell self.old (blocks_on table.now (D.world disk.old).seen.held) → OnOk result ((is_due self.new (length table.now.index.rows) ≡ false) × (self.new.block ≡ self.old.block + 1)) }
         ensures sound { (n : ℕ) → IsTrue D.tells → self.old.block ≤ n → n < self.new.block → IsSoundBlock table.now n (D.world disk.old).seen.held }
-        ensures taken { IfErr result IsNoWant }
+        ensures never_memory { IfErr result IsNotMemory }
         ensures there { OnErr result (self.new.block < length table.now.index.rows) }
         ensures cause { IfErr result (HasReadCause (byte_of_page (page_at table.now self.new.block)) (D.world disk.old) (D.world disk.new)) }
         ensures fault { IsTrue D.tells → IfErr result (IsGetFault table.now self.new.block (D.world disk.old).seen.held) }
@@ -175,7 +175,7 @@ impl TableCursor {
         Ok(())
     }
 
-    // Reads the next block. At `Err` the walk stands where it stood.
+    // Reads the next block. At `Err` the walk is where it stood.
     #[inline(never)]
     #[tactic(auto, using(crate::proofs::Rooms::row_within))]
     fn load<F: RangeFilter, D: Disk>(
@@ -196,7 +196,7 @@ impl TableCursor {
         ensures entries { IsTrue D.tells → OnOk result (self.new.later ≡ kept_from self.old.bound (block_in (bytes_at table.now self.old.block (D.world disk.old).seen.held))) }
         ensures some { self.old.bound ≡ None → OnOk result (1 ≤ length self.new.later) }
         ensures sound { IsTrue D.tells → IfOk result (λ _. IsSoundBlock table.now self.old.block (D.world disk.old).seen.held) }
-        ensures taken { IfErr result IsNoWant }
+        ensures never_memory { IfErr result IsNotMemory }
         ensures cause { IfErr result (HasReadCause (byte_of_page (page_at table.now self.old.block)) (D.world disk.old) (D.world disk.new)) }
         ensures fault { IsTrue D.tells → IfErr result (IsGetFault table.now self.old.block (D.world disk.old).seen.held) }
         ensures moves { ReadMoves 1 (D.world disk.old) (D.world disk.new) }

@@ -6,7 +6,7 @@ use byte_fields::Damage;
 use disk_trait::DiskFault;
 use std::alloc::AllocError;
 
-/// What ends an opening or a read: want of memory, the device, or damage.
+/// What ends an opening or a read: lack of memory, the device, or damage.
 #[derive(Clone, Copy, Debug, PartialEq, Eq)]
 pub enum TableFault {
     /// There is no memory.

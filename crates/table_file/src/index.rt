@@ -10,8 +10,8 @@ ghost use Rattle.table_file.specs.Search.{block_of_key, row_at};
 ghost use Rattle.table_file.specs.BlockRows.{StandFrom, lasts, row_seen, rows_seen};
 ghost use Rattle.table_file.specs.Faults.{IsIndexFault, IsPlaceWithin};
 
-use crate::before::BeforeLast;
 use crate::block_row::BlockRow;
+use crate::index_order::BeforeLast;
 use crate::index_row::{MAGIC, read_head, read_row};
 use byte_fields::{PartFault, push_fields};
 use key_base::compare;
@@ -24,7 +24,7 @@ const HEAD_WIDTHS: [usize; 3] = [4, 4, 2];
 // The pages and the sum of a block, and the length of its last key.
 const ROW_WIDTHS: [usize; 3] = [4, 8, 2];
 
-// Bytes are left behind the last row.
+// Bytes are left after the last row.
 const BYTES_LEFT: u8 = 7;
 
 // The blocks have other pages than the table.
@@ -54,7 +54,7 @@ impl Model for BlockIndex {
 }
 
 impl BlockIndex {
-    /// The index that these bytes spell for a table of so many pages of blocks, or the first rule of the format that
+    /// The index that these bytes spell for a table of a given number of pages of blocks, or the first rule of the format that
     /// they break, and where.
     ///
     /// One pass over the bytes. Memory is taken for the rows that are there, whatever their count says.
@@ -85,7 +85,7 @@ impl BlockIndex {
         Ok(BlockIndex { least, rows, most })
     }
 
-    /// The index with this least key and these rows, whose blocks stand one after the other.
+    /// The index with this least key and these rows, whose blocks are one after the other.
     pub(crate) fn new(least: Vec<u8>, rows: Vec<BlockRow>) -> BlockIndex
         requires sound { IsIndex (row_pages (rows_seen rows.items)) (record { least = least.items; rows = rows_seen rows.items }) }
         requires stand { StandFrom 0 rows.items }
@@ -212,7 +212,7 @@ fn push_rows(rows: &[BlockRow], out: &mut Vec<u8>) -> Result<(), AllocError>
     Ok(())
 }
 
-// So many rows that fill these bytes, behind the least key of their table, and the pages of all blocks. The bytes begin at
+// A given number of rows that fill these bytes, after the least key of their table, and the pages of all blocks. The bytes begin at
 // a place of their index.
 fn read_rows(
     alloc: Global,

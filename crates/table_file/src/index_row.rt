@@ -5,7 +5,7 @@ ghost use Rattle.block_model.specs.IndexReading.{head_width_in, index_head_fault
 ghost use Rattle.table_file.specs.Faults.{IsShape, IsPlaceWithin};
 ghost use Rattle.table_file.specs.BeforeLast.{passes};
 
-use crate::before::BeforeLast;
+use crate::index_order::BeforeLast;
 use byte_fields::{PartFault, get_u16, get_u32, get_u64};
 use key_base::{MAX_BLOCK_PAGES, MAX_KEY_BYTES};
 
@@ -43,7 +43,7 @@ pub(crate) struct Head<'a> {
     pub width: usize,
 }
 
-/// A row as it stands in its index, and how many bytes it takes.
+/// A row as it is in its index, and how many bytes it takes.
 #[derive(Clone, Copy)]
 pub(crate) struct RowHere<'a> {
     pub pages: u32,

@@ -25,20 +25,20 @@
 //! ```
 #![tactic(auto)]
 
-mod before;
+mod block_buffer;
 mod block_row;
 mod builder;
 mod cursor;
 mod fault;
-mod four_sums;
-mod held_block;
 mod index;
+mod index_order;
 mod index_row;
-mod laws;
+pub mod laws;
 mod opening;
 mod padded;
 mod parts;
 mod row_index;
+mod sum_four_blocks;
 mod summing;
 mod table;
 mod tables;
@@ -47,10 +47,6 @@ mod writing;
 pub use builder::TableBuilder;
 pub use cursor::TableCursor;
 pub use fault::TableFault;
-pub use laws::{
-    opened_tables_stand, standing_tables_are_kept, standing_tables_are_read,
-    written_parts_are_shown,
-};
 pub use opening::{fits_device, open_table, read_filter, read_index};
 pub use parts::{Parts, pages_of};
 pub use row_index::Index;

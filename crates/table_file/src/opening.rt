@@ -113,7 +113,7 @@ pub fn fits_device(row: &Row) -> bool
         && end_of(row) <= u64::from(MAX_DEVICE_PAGES)
 }
 
-// The page behind the table of a row.
+// The page after the table of a row.
 fn end_of(row: &Row) -> u64
     ensures { result ≡ end_page row.now }
 {
@@ -123,7 +123,7 @@ fn end_of(row: &Row) -> u64
         + u64::from(row.filter_pages)
 }
 
-// So many bytes from a page on.
+// A given number of bytes from a page on.
 fn read_part<D: Disk>(
     alloc: Global,
     disk: &mut D,

@@ -10,7 +10,7 @@ use key_base::PAGE_BYTES;
 use std::alloc::AllocError;
 use std::marker::Model;
 
-/// The bytes of a part, seen without the zero bytes that stand behind them to the end of their last page.
+/// The bytes of a part, seen without the zero bytes that are after them to the end of their last page.
 #[derive(Drop)]
 pub(crate) struct Padded {
     bytes: Vec<u8>,

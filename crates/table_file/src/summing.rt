@@ -7,7 +7,7 @@ ghost use Rattle.block_model.specs.Pages.{page_bytes};
 ghost use Rattle.table_file.specs.BlockRows.{AreRowsOf, block_at, rows_seen, summed_all, summed_rows};
 
 use crate::block_row::BlockRow;
-use crate::four_sums::fnv1a_four;
+use crate::sum_four_blocks::fnv1a_four;
 use byte_fields::fnv1a;
 use key_base::PAGE_BYTES;
 
@@ -44,7 +44,7 @@ fn sum_fours(blocks: &[u8], rows: &mut [BlockRow]) -> usize
     SIDE_BY_SIDE * fours
 }
 
-// Puts the sums of the block number `n` and of the three behind it.
+// Puts the sums of the block number `n` and of the three after it.
 fn sum_four(blocks: &[u8], rows: &mut [BlockRow], n: usize)
     requires there { n + 4 ≤ length rows.old }
     requires rows { AreRowsOf rows.old blocks.now }

@@ -17,13 +17,13 @@ ghost use Rattle.block_model.specs.BlockReading.{block_fault, block_in};
 ghost use Rattle.block_model.specs.Index.{row_pages};
 ghost use Rattle.block_model.specs.Pages.{page_bytes};
 ghost use Rattle.block_model.specs.Places.{byte_of_page};
-ghost use Rattle.table_file.specs.Faults.{HasReadCause, IsNoDamage, IsNoWant, IsOtherSum};
+ghost use Rattle.table_file.specs.Faults.{HasReadCause, IsNoDamage, IsNotMemory, IsOtherSum};
 ghost use Rattle.table_file.specs.Search.{IsBrokenBlock, IsDamagedBlock, IsGetFault, IsOtherBlock, IsSoundBlock, StandsThere, block_for, blocks_of_get, bytes_at, largest_block, page_at, row_at};
 ghost use Rattle.table_file.specs.Walks.{most_block_pages, walk_from};
 
+use crate::block_buffer::HeldBlock;
 use crate::cursor::TableCursor;
 use crate::fault::TableFault;
-use crate::held_block::HeldBlock;
 use crate::index::BlockIndex;
 use crate::opening::same_sum;
 use block_format::{Block, BlockFault, EntryWalk, read_sum_and_walk};
@@ -138,7 +138,7 @@ impl<F: RangeFilter> Table<F> {
     ) -> Result<Option<Option<&'a [u8]>>, TableFault>
         requires room { page_bytes * most_block_pages self.now.index.rows ≤ length buf.old }
         ensures denied { block_for self.now key.now ≡ None → result ≡ Ok None }
-        ensures taken { IfErr result IsNoWant }
+        ensures never_memory { IfErr result IsNotMemory }
         ensures cause { (n : ℕ) → block_for self.now key.now ≡ Some n → IfErr result (HasReadCause (byte_of_page (page_at self.now n)) (D.world disk.old) (D.world disk.new)) }
         ensures fault { (n : ℕ) → IsTrue D.tells → block_for self.now key.now ≡ Some n → IfErr result (IsGetFault self.now n (D.world disk.old).seen.held) }
         ensures sound { (n : ℕ) → IsTrue D.tells → block_for self.now key.now ≡ Some n → IfOk result (λ _. IsSoundBlock self.now n (D.world disk.old).seen.held) }
@@ -197,7 +197,7 @@ impl<F: RangeFilter> Table<F> {
         requires room { page_bytes * (row_at self.now.index.rows n).pages ≤ length buf.old }
         ensures size { IfOk result (λ size. size ≡ page_bytes * (row_at self.now.index.rows n).pages) }
         ensures large { IfOk result (λ size. size ≤ largest_block) }
-        ensures taken { IfErr result IsNoWant }
+        ensures never_memory { IfErr result IsNotMemory }
         ensures bytes { IsTrue D.tells → IfOk result (λ size. take size buf.new ≡ bytes_at self.now n (D.world disk.old).seen.held) }
         ensures sum { IsTrue D.tells → IfOk result (λ _. (row_at self.now.index.rows n).sum ≡ fnv_of (bytes_at self.now n (D.world disk.old).seen.held)) }
         ensures damaged { IsTrue D.tells → IfErr result (IsOtherBlock self.now n (D.world disk.old).seen.held) }
@@ -228,7 +228,7 @@ impl<F: RangeFilter> Table<F> {
         ensures large { IfOk result (λ r. r.0 ≤ largest_block) }
         ensures whole { IfOk result (λ r. block_fault (take r.0 buf.new) ≡ None) }
         ensures has { IfOk result (λ r. r.1 ≡ is_some (lookup (block_in (take r.0 buf.new)) key.now)) }
-        ensures taken { IfErr result IsNoWant }
+        ensures never_memory { IfErr result IsNotMemory }
         ensures bytes { IsTrue D.tells → IfOk result (λ r. take r.0 buf.new ≡ bytes_at self.now n (D.world disk.old).seen.held) }
         ensures sum { IsTrue D.tells → IfOk result (λ _. (row_at self.now.index.rows n).sum ≡ fnv_of (bytes_at self.now n (D.world disk.old).seen.held)) }
         ensures fault { IsTrue D.tells → IfErr result (IsGetFault self.now n (D.world disk.old).seen.held) }
@@ -293,7 +293,7 @@ impl<F: RangeFilter> Table<F> {
         ensures whole { IfOk result (λ _. block_fault bytes.now ≡ None) }
         ensures said { IfOk result (λ found. option_map (λ f. option_map (λ v. v.now) f) found ≡ lookup (block_in bytes.now) key.now) }
         ensures damaged { IfErr result (IsDamagedBlock self.now n bytes.now) }
-        ensures taken { IfErr result IsNoWant }
+        ensures never_memory { IfErr result IsNotMemory }
     {
         let (sum, found) = Block::read_sum_and_find(bytes, key);
         self.check_block(n, sum)?;
@@ -326,7 +326,7 @@ impl<F: RangeFilter> Table<F> {
         ensures some { low.entry ≡ None → IfOk result (λ walk. 1 ≤ walk.left) }
         ensures sound { IfOk result (λ walk. AllByRecursion IsEntry (walked walk buffer.new bytes.now)) }
         ensures damaged { IfErr result (IsDamagedBlock self.now n bytes.now) }
-        ensures taken { IfErr result IsNoWant }
+        ensures never_memory { IfErr result IsNotMemory }
     {
         let (sum, walk) = read_sum_and_walk(bytes, low, buffer);
         self.check_block(n, sum)?;

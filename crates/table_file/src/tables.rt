@@ -35,7 +35,7 @@ impl<F: RangeFilter> Tables<F> {
         }
     }
 
-    /// Makes room for so many more. Without memory all stays as it was.
+    /// Makes room for a given number of more. Without memory all stays as it was.
     pub fn reserve(&mut self, more: usize) -> Result<(), AllocError>
         ensures tables { self.new.tables ≡ self.old.tables }
         ensures room { OnOk result (length self.old.tables + more ≤ self.new.room) }
@@ -43,7 +43,7 @@ impl<F: RangeFilter> Tables<F> {
         self.tables.reserve(more)
     }
 
-    /// Puts a table before the one at a place, or behind all, where there is room for it.
+    /// Puts a table before the one at a place, or after all, where there is room for it.
     pub fn insert(&mut self, place: usize, table: Table<F>)
         requires there { place ≤ length self.old.tables }
         requires room { length self.old.tables < self.old.room }

@@ -17,7 +17,7 @@ use key_base::PAGE_BYTES;
 /// [pages of the table](crate::pages_of) end within the 2^24 of the largest device.
 ///
 /// At `Ok` each image that a crash may leave has the table there, and it is the one that
-/// [`into_table`](crate::Parts::into_table) makes of the parts. At `Err` any bytes may stand in its pages.
+/// [`into_table`](crate::Parts::into_table) makes of the parts. At `Err` any bytes may be in its pages.
 pub fn write_parts<F: RangeFilter, D: Disk>(
     disk: &mut D,
     first_page: u32,
@@ -46,7 +46,7 @@ pub fn write_parts<F: RangeFilter, D: Disk>(
     )
 }
 
-// Writes three pieces one behind the other, and makes them last.
+// Writes three pieces one after the other, and makes them last.
 fn write_three<D: Disk>(
     disk: &mut D,
     at: u64,

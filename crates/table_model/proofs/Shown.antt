@@ -1,4 +1,4 @@
--- Bytes that stand in an image, in parts.
+-- Bytes that are in an image, in parts.
 use Rattle.std.proofs.Common.{◌≡◌, ◌+◌, ◌≤◌, ℕ, ◌++◌, length, take, drop, refl, sym, ap, ◌∙◌, arith, length-append, inl, inr}
 use Rattle.std.proofs.lemmas.List.{take_at, drop_at}
 use Rattle.disk_trait.specs.Image.{Image, IsApart, Shows, Torn, window}
@@ -16,7 +16,7 @@ same_parts xs ys more others same e = (
 pub same_shown : (at : ℕ) (xs ys : Bytes) (image : Image) → length xs ≡ length ys → Shows at xs image → Shows at ys image → xs ≡ ys
 same_shown at xs ys image same a b = sym a ∙ ap (window image at) same ∙ b
 
--- what stands there is what so many bytes from there on are
+-- what is there is what a given number of bytes from there on are
 pub shown_is : (at n : ℕ) (bytes : Bytes) (image : Image) → length bytes ≡ n → Shows at bytes image → window image at n ≡ bytes
 shown_is at n bytes image long shown = ap (window image at) (sym long) ∙ shown
 

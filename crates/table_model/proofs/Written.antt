@@ -1,5 +1,5 @@
--- A table that is written stands.
-use Rattle.std.proofs.Common.{◌≡◌, ℕ, List, length, refl, sym, ap, ◌∙◌, subst}
+-- A table that is written is there.
+use Rattle.std.proofs.Common.{◌≡◌, ℕ, List, [], length, refl, sym, ap, ◌∙◌, subst}
 use Rattle.std.specs.Prelude.{map}
 use Rattle.disk_trait.specs.Image.{Image, Shows}
 use Rattle.byte_fields.specs.Sums.{fnv_of}
@@ -71,5 +71,6 @@ table_stands spelling filter_bytes settings level first_page entries image is sp
     blocks = length (blocks_of entries);
     settings = settings;
     entries = sym (blocks_joined entries) i;
+    ranges = [];
   },
 )

@@ -41,7 +41,7 @@ block_part page row image = window image (byte_of_page page) (page_bytes * row.p
 abbrev pub block_damage : ℕ → IndexRow → Image → Option Damage
 block_damage page row image = part_damage part.Block (byte_of_page page) row.sum (block_part page row image) (block_fault (block_part page row image))
 
--- no block has damage, one behind the other from this page on
+-- no block has damage, one after the other from this page on
 abbrev pub AreSoundBlocks : ℕ → List IndexRow → Image → Type 0
 AreSoundBlocks page [] image = Unit {0}
 AreSoundBlocks page (row ∷ later) image = (block_damage page row image ≡ None) × AreSoundBlocks (page + row.pages) later image

@@ -1,5 +1,5 @@
--- A table as it stands on a device: its blocks, its index and its filter, one after the other.
-use Rattle.std.specs.Prelude.{◌≡◌, ℕ, List, length, sum_by}
+-- A table as it is on a device: its blocks, its index and its filter, one after the other.
+use Rattle.std.specs.Prelude.{◌≡◌, ℕ, List, [], length, sum_by}
 use Rattle.std.specs.List.{AllByRecursion}
 use Rattle.disk_trait.specs.Image.{Image, Shows}
 use Rattle.byte_fields.specs.Sums.{fnv_of}
@@ -18,7 +18,7 @@ use Rattle.block_model.specs.Places.{byte_of_page, filter_page, index_page, page
 use Rattle.table_model.specs.Pieces.{IsPiece, blocks_in, end_to_end, index_of_pieces, piece_pages}
 use Rattle.table_model.specs.Tables.{Table}
 
--- a part stands at its page, with the length and the sum that the row keeps
+-- a part is at its page, with the length and the sum that the row keeps
 pub record IsPart (page length_kept sum_kept : ℕ) (bytes : Bytes) (image : Image) : Type 0 where
   pub shown : Shows (byte_of_page page) bytes image
   pub size : length bytes ≡ length_kept
@@ -48,7 +48,7 @@ pub record IsTableAt (spelling : Spelling) (row : Row) (blocks : List (List Entr
   pub filter : IsPart (filter_page row) row.filter_len row.filter_sum filter_bytes image
   pub entries : length (joined blocks) ≡ row.entries
 
--- the table of a row, of which these are the blocks
+-- the table of a row, of which these are the blocks: no bytes hold a range
 abbrev pub table_with : Row → List (List Entry) → Table
 table_with row blocks = record {
   level = row.level;
@@ -57,12 +57,13 @@ table_with row blocks = record {
   blocks = length blocks;
   settings = row_settings row;
   entries = joined blocks;
+  ranges = [];
 }
 
 -- the table that a row's pages spell
 abbrev pub IsTableOf : Spelling → Row → Table → Image → Type 0
 IsTableOf spelling row t image = (blocks : List (List Entry)) × IsTableAt spelling row blocks image × (t ≡ table_with row blocks)
 
--- the table stands in its extent: some row's pages spell it
+-- the table is in its extent: some row's pages spell it
 abbrev pub StandsInExtent : Spelling → Image → Table → Type 0
 StandsInExtent spelling image t = (row : Row) × IsTableOf spelling row t image

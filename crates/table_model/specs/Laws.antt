@@ -32,7 +32,7 @@ OneTable =
     (spelling : Spelling) (row : Row) (t u : Table) (image : Image)
     → IsTableOf spelling row t image → IsTableOf spelling row u image → t ≡ u
 
--- where the parts of a table of some entries stand, its row's pages spell the table that is made of them
+-- where the parts of a table of some entries lie, its row's pages spell the table that is made of them
 abbrev pub TableStands : Type 0
 TableStands =
     (spelling : Spelling) (filter_bytes : FilterBytes) (settings : Settings) (level first_page : ℕ) (entries : List Entry) (image : Image) → IsTable entries
@@ -92,7 +92,7 @@ FilterIsSoundOrDamaged =
     → IsSoundFilter spelling row image ⊎ ((d : Damage) × IsFilterDamage spelling first_fault row image d)
 
 -- Another sum is what is wrong with an index, whatever its rules: at its first byte, the kept sum before the seen one. Where
--- the sum is the kept one it is the first broken rule, at its place behind that byte. So it is with a block.
+-- the sum is the kept one it is the first broken rule, at its place after that byte. So it is with a block.
 pub record IndexDamageIsPlaced (row : Row) (image : Image) : Type 0 where
   pub sum :
       row.index_sum ≢ fnv_of (index_part row image)

@@ -10,6 +10,8 @@ pub use Rattle.entry_model.specs.Entries
 pub use Rattle.filter_api.specs.Spellings
 pub use Rattle.filter_model.specs.Leaves
 pub use Rattle.map_model.specs.SortedMap
+pub use Rattle.range_model.specs.Ranges
+pub use Rattle.range_model.specs.Sources
 pub mod Tables
 pub mod Pieces
 pub mod Images

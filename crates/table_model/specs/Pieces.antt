@@ -1,4 +1,4 @@
--- The blocks of a table as they stand on a device: pieces of bytes, each of either format.
+-- The blocks of a table as they are on a device: pieces of bytes, each of either format.
 use Rattle.std.specs.Prelude.{◌≡◌, ℕ, List, length, map, flat_map, None}
 use Rattle.byte_fields.specs.Sums.{fnv_of}
 use Rattle.map_model.specs.SortedMap.{Bytes}

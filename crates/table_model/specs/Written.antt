@@ -1,4 +1,4 @@
--- The row of a table that is written, and what stands in its pages then.
+-- The row of a table that is written, and what is in its pages then.
 use Rattle.std.specs.Prelude.{ℕ, List, length}
 use Rattle.disk_trait.specs.Image.{Image, Shows}
 use Rattle.byte_fields.specs.Sums.{fnv_of}

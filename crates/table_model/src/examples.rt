@@ -8,9 +8,12 @@ ghost use Rattle.byte_fields.specs.declared.parts.Damage.TheVariants.{Sum};
 ghost use Rattle.byte_fields.specs.declared.parts.Part.TheVariants.{Filter};
 ghost use Rattle.filter_api.specs.Spellings.{Spelling};
 ghost use Rattle.filter_api.specs.declared.errors.FilterFault.{FilterFault};
+ghost use Rattle.entry_model.specs.Entries.{del_entry};
 ghost use Rattle.map_model.specs.SortedMap.{Bytes};
+ghost use Rattle.range_model.specs.Ranges.{range_of};
 ghost use Rattle.table_model.specs.Damage.{IsFilterDamage};
 ghost use Rattle.table_model.specs.Examples.{b_and_bc, of_both_formats};
+ghost use Rattle.table_model.specs.Tables.{index_length_with};
 ghost use Rattle.table_model.specs.Pieces.{IsPiece, blocks_in, index_of_pieces, piece_pages, row_of_piece};
 ghost use Rattle.table_model.specs.Written.{row_for};
 
@@ -33,4 +36,12 @@ pub fn a_table_of_both_formats()
     ensures data_pages { sum_by piece_pages of_both_formats ≡ 2 }
     ensures index_len { length (index_bytes (index_of_pieces of_both_formats)) ≡ 42 }
     ensures index_sum { fnv_of (index_bytes (index_of_pieces of_both_formats)) ≡ 6861134697817345944 }
+{}
+
+/// What ranges take of an index: none of it where there are none.
+#[tactic(auto, unfolding(block_model::specs::Pages::block_length, block_model::specs::Pages::blocks_of, block_model::specs::Pages::index_length, block_model::specs::Bodies::entries_bytes))]
+pub fn ranges_in_an_index()
+    ensures none { index_length_with (del_entry (0x61 ∷ []) ∷ []) [] ≡ 26 }
+    ensures one { index_length_with (del_entry (0x61 ∷ []) ∷ []) (range_of (0x61 ∷ []) (0x63 ∷ []) ∷ []) ≡ 36 }
+    ensures two { index_length_with (del_entry (0x61 ∷ []) ∷ del_entry (0x64 ∷ []) ∷ []) (range_of (0x61 ∷ []) (0x63 ∷ []) ∷ range_of (0x64 ∷ []) (0x65 ∷ []) ∷ []) ≡ 42 }
 {}

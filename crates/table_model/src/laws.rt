@@ -1,7 +1,7 @@
 //! The laws of tables. They are proved and never called.
 ghost use Rattle.table_model.specs.Laws.{BlockRules, BlocksHaveNone, FilterHasNone, FilterIsOfTheKeys, FilterIsSoundOrDamaged, FilterRules, IndexHasNone, IndexRules, OneFilterDamage, OneTable, SoundFilterHasNone, TableIsKept, TableStands};
 
-/// A row's pages spell one table at most. Where the blocks, the index and the filter of some entries stand at the pages of
+/// A row's pages spell one table at most. Where the blocks, the index and the filter of some entries are at the pages of
 /// the row that is made for them, it is the table of these entries.
 pub fn a_row_has_one_table()
     ensures one { OneTable }

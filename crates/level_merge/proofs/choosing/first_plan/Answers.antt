@@ -1,10 +1,12 @@
 use Rattle.std.proofs.Common.{◌≡◌, ◌<◌, ℕ, length, map, take, sym, subst, ap, ◌∙◌, List}
 use Rattle.std.specs.List.{AllByRecursion}
-use Rattle.std.specs.Prelude.{◌==◌}
+use Rattle.std.specs.Prelude.{◌==◌, ◌+◌, IfOk}
 use Rattle.std.proofs.lemmas.List.{take-map}
-use Rattle.level_merge.specs.Outlines.{table_number, outline_of, outlines}
-use Rattle.level_merge.proofs.Outlines.{IsNumbered, all_below, all_taken, found_again, level_numbered}
-use Rattle.state_model.specs.Merges.{on_level}
+use Rattle.level_merge.specs.Outlines.{by_numbers, table_number, outline_of, outlines}
+use Rattle.extent_model.proofs.Lists.{all_kept}
+use Rattle.level_merge.proofs.Outlines.{IsNumbered, all_below, all_taken, found_again, level_numbered, outlines_alone, planned_by_keys}
+use Rattle.state_model.specs.Merges.{Plan, on_level}
+use Rattle.state_model.specs.WithoutRanges.{HasNoRange}
 use Rattle.table_file.specs.Opened.{Opened}
 use Rattle.table_model.specs.Tables.{Table}
 use Rattle.level_merge.proofs.choosing.first_plan.Goals as goal
@@ -26,5 +28,8 @@ returns g c =
     let level = c.args.level in
     let which : c.truncate.new.self.items ≡ map table_number (take 1 (on_level level (outlines tables))) =
     c.truncate.ensures.items ∙ ap (take 1) c.in_ok-which.ensures ∙ take-map table_number 1 (on_level level (outlines tables)) in
-    c.plan_of.ensures (take 1 (on_level level (outlines tables)))
-    (ap (map (outline_of tables)) which ∙ found_again tables (take 1 (on_level level (outlines tables))) (first_numbered tables level)) which
+    subst (λ (p : Plan). IfOk c.plan_of.result (λ plan. plan ≡ by_numbers p))
+    (planned_by_keys tables (take 1 (on_level level (outlines tables))) (level + 1)
+    (all_taken HasNoRange 1 (on_level level (outlines tables)) (all_kept HasNoRange (λ (t : Table). t.level == level) (outlines tables) (outlines_alone tables))))
+    (c.plan_of.ensures (take 1 (on_level level (outlines tables)))
+    (ap (map (outline_of tables)) which ∙ found_again tables (take 1 (on_level level (outlines tables))) (first_numbered tables level)) which)

@@ -1,9 +1,9 @@
 use Rattle.std.proofs.Common.{◌≡◌, ◌-◌, ◌+◌, ◌++◌, ℕ, List, [], ◌∷◌, length, map, drop, true, false, cond, sym, ap, ◌∙◌}
 use Rattle.std.specs.Prelude.{filter}
 use Rattle.map_model.specs.SortedMap.{Bytes}
-use Rattle.level_merge.specs.Outlines.{table_number, outline, outlines}
+use Rattle.level_merge.specs.Outlines.{table_number, outline, outlines, overlaps}
 use Rattle.level_merge.proofs.Outlines.{kept_more, level_kept, level_passed, passed_more}
-use Rattle.state_model.specs.Merges.{on_level, overlaps}
+use Rattle.state_model.specs.Merges.{on_level}
 use Rattle.table_file.specs.Opened.{Opened}
 use Rattle.table_model.specs.Tables.{Table}
 use Rattle.level_merge.proofs.choosing.push_met.Goals.{then-row-level+then-overlaps+in_ok-push, else-row-level, else-row-level-via-then-row-level+else-overlaps, else-row-level-via-else-row-level}

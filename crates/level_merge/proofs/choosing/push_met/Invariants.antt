@@ -1,6 +1,6 @@
 use Rattle.std.proofs.Common.{◌≡◌, ◌++◌, map, filter, drop}
-use Rattle.level_merge.specs.Outlines.{table_number, outlines}
-use Rattle.state_model.specs.Merges.{on_level, overlaps}
+use Rattle.level_merge.specs.Outlines.{table_number, outlines, overlaps}
+use Rattle.state_model.specs.Merges.{on_level}
 use Rattle.level_merge.proofs.choosing.push_met.Given as goal
 
 -- those so far and those among what is left

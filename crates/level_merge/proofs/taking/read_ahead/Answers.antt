@@ -23,7 +23,7 @@ loop-left-init g c =
       some = λ less. absurd (omega (arith, less));
       passes = passes_none g.D.Disk.tells c.args.tables.now.tables before.seen.held c.args.blocks c.args.rows.now.walks;
       moves = (0, reads_none 0 before);
-      paced = reads_none (2 * (c.args.blocks - c.args.blocks)) before;
+      caught_up_past = reads_none (2 * (c.args.blocks - c.args.blocks)) before;
       counted = λ t s. reads_none (c.args.blocks - c.args.blocks) before;
     }
 
@@ -46,7 +46,7 @@ loop-left-preserved g c =
       some = λ _. omega (arith, less, from.fewer);
       passes = passes_read g.D.Disk.tells tables before.seen.held c.args.blocks mid.seen.held c.args.rows.now.walks old.walks new.walks held from.passes (omega (arith, c.loop-left-test.true, from.within)) c.fill.ensures.read_sound;
       moves = only_then 2 before mid after from.moves c.fill.ensures.moves;
-      paced = one_twice c.args.blocks c.loop-left.left before mid after (omega (arith, c.loop-left-test.true)) from.within from.paced c.fill.ensures.moves;
+      caught_up_past = one_twice c.args.blocks c.loop-left.left before mid after (omega (arith, c.loop-left-test.true)) from.within from.caught_up_past c.fill.ensures.moves;
       counted = λ t s.
           let once = subst (λ (h : Image). IsSoundMerge old tables h → ReadMoves 1 mid after × IsFewer c.fill.result (wanted old tables) (wanted new tables)) held (c.fill.ensures.once t) (from.kept.sources.sound t s) in
           one_more c.args.blocks c.loop-left.left before mid after (omega (arith, c.loop-left-test.true)) from.within (from.counted t s) once.0;
@@ -92,34 +92,34 @@ returns-in-Ok-false-clause-passes g c =
 
 pub returns-in-Ok-false-clause-heads_pass : goal.returns-in-Ok-false-clause-heads_pass
 returns-in-Ok-false-clause-heads_pass g c less =
-    subst (λ (f : KeyFloor). AreHeadsClear f c.fill.new.self.walks) (sym c.fill.ensures.stays.floor_is) (c.in-Ok-false.ensures.clear c.in-Ok-false.field-0-test)
+    subst (λ (f : KeyFloor). AreHeadsClear f c.fill.new.self.walks) (sym c.fill.ensures.stays.floor_is) (c.in-Ok-false.ensures.heads_pass c.in-Ok-false.field-0-test)
 
 pub returns-in-Ok-false-clause-caught_up : goal.returns-in-Ok-false-clause-caught_up
 returns-in-Ok-false-clause-caught_up g c t less =
     let tables = c.args.tables.now.tables in
     let walks = c.fill.new.self.walks in
-    let caught = subst (λ (h : Image). AreCaughtUp c.loop-left.rows.floor tables h walks) c.loop-left.invariant.moves.1.held (c.in-Ok-false.ensures.ready t c.in-Ok-false.field-0-test) in
+    let caught = subst (λ (h : Image). AreCaughtUp c.loop-left.rows.floor tables h walks) c.loop-left.invariant.moves.1.held (c.in-Ok-false.ensures.caught_up t c.in-Ok-false.field-0-test) in
     subst (λ (f : KeyFloor). AreCaughtUp f tables (g.D.Disk.world c.args.disk.now).seen.held walks) (sym c.fill.ensures.stays.floor_is) caught
 
 pub returns-in-Ok-false-clause-moves : goal.returns-in-Ok-false-clause-moves
 returns-in-Ok-false-clause-moves g c =
     only_then 2 (g.D.Disk.world c.args.disk.now) (g.D.Disk.world c.loop-left.disk) (g.D.Disk.world c.fill.new.disk) c.loop-left.invariant.moves c.fill.ensures.moves
 
-pub returns-in-Ok-false-clause-paced : goal.returns-in-Ok-false-clause-paced
-returns-in-Ok-false-clause-paced g c =
-    none_twice c.args.blocks c.loop-left.left (g.D.Disk.world c.args.disk.now) (g.D.Disk.world c.loop-left.disk) (g.D.Disk.world c.fill.new.disk) c.loop-left.invariant.paced
+pub returns-in-Ok-false-clause-caught_up_past : goal.returns-in-Ok-false-clause-caught_up_past
+returns-in-Ok-false-clause-caught_up_past g c =
+    none_twice c.args.blocks c.loop-left.left (g.D.Disk.world c.args.disk.now) (g.D.Disk.world c.loop-left.disk) (g.D.Disk.world c.fill.new.disk) c.loop-left.invariant.caught_up_past
     (c.in-Ok-false.ensures.idle c.in-Ok-false.field-0-test)
 
 pub returns-in-Ok-false-clause-twice : goal.returns-in-Ok-false-clause-twice
 returns-in-Ok-false-clause-twice g c =
     all_twice c.args.blocks c.loop-left.left (g.D.Disk.world c.args.disk.now) (g.D.Disk.world c.fill.new.disk)
-    (none_twice c.args.blocks c.loop-left.left (g.D.Disk.world c.args.disk.now) (g.D.Disk.world c.loop-left.disk) (g.D.Disk.world c.fill.new.disk) c.loop-left.invariant.paced
+    (none_twice c.args.blocks c.loop-left.left (g.D.Disk.world c.args.disk.now) (g.D.Disk.world c.loop-left.disk) (g.D.Disk.world c.fill.new.disk) c.loop-left.invariant.caught_up_past
     (c.in-Ok-false.ensures.idle c.in-Ok-false.field-0-test))
 
 pub returns-in-Err-clause-twice : goal.returns-in-Err-clause-twice
 returns-in-Err-clause-twice g c =
     then_twice c.args.blocks c.loop-left.left 2 (g.D.Disk.world c.args.disk.now) (g.D.Disk.world c.loop-left.disk) (g.D.Disk.world c.fill.new.disk) (omega (arith, c.loop-left-test.true)) c.loop-left.invariant.within
-    c.loop-left.invariant.paced c.fill.ensures.moves
+    c.loop-left.invariant.caught_up_past c.fill.ensures.moves
 
 pub returns-in-Ok-false-clause-counted : goal.returns-in-Ok-false-clause-counted
 returns-in-Ok-false-clause-counted g c t s =
@@ -150,7 +150,7 @@ returns-in-Err-clause-fault g c =
     let after = g.D.Disk.world c.fill.new.disk in
     let now = numbers c.loop-left.rows.walks in
     let which = numbers c.args.rows.now.walks in
-    let is = read_fault tells tables now mid after c.in-Err.why c.in-Err.ensures.taken c.in-Err.ensures.cause c.in-Err.ensures.fault in
+    let is = read_fault tells tables now mid after c.in-Err.why c.in-Err.ensures.never_memory c.in-Err.ensures.cause c.in-Err.ensures.fault in
     subst (λ why. Rattle.level_merge.specs.SliceSteps.IsTakeFault tells tables which before after why) (sym c.from.ensures)
     (later_fault tells tables now which before mid after _ c.loop-left.invariant.kept.sources.numbers_are c.loop-left.invariant.moves is)
 
@@ -189,9 +189,9 @@ returns-in-Err-clause-bounded g c t s =
 pub returns-in-Err-clause-unread : goal.returns-in-Err-clause-unread
 returns-in-Err-clause-unread g c = omega (arith, c.loop-left-test.true, c.loop-left.invariant.within)
 
--- ---- no more may be read: the next row wants a block, or none
+-- ---- no more may be read: the next row needs a block, or none
 
--- what was so is so behind the question
+-- what was so is so after the question
 pub returns-then-wants_block : goal.returns-then-wants_block
 returns-then-wants_block g c =
     let tells = g.D.Disk.tells in
@@ -202,7 +202,7 @@ returns-then-wants_block g c =
     let from = c.loop-left.invariant in
     let asks = c.wants_block.ensures in
     let none : c.loop-left.left ≡ 0 = omega (arith, c.loop-left-test.false) in
-    let paced = subst (λ (n : ℕ). ReadMoves (2 * (c.args.blocks - n)) before after) none (none_twice c.args.blocks c.loop-left.left before mid after from.paced asks.moves) in
+    let caught_up_past = subst (λ (n : ℕ). ReadMoves (2 * (c.args.blocks - n)) before after) none (none_twice c.args.blocks c.loop-left.left before mid after from.caught_up_past asks.moves) in
     let counted : IsTrue tells → IsSoundMerge c.args.rows.now tables before.seen.held → ReadMoves (c.args.blocks - 0) before after = λ t s. subst (λ (n : ℕ). ReadMoves (c.args.blocks - n) before after) none (none_more c.args.blocks c.loop-left.left before mid after (from.counted t s) asks.moves) in
     record {
       kept = kept_then tells tables before.seen.held c.args.rows.now c.loop-left.rows c.wants_block.new.self from.kept
@@ -220,8 +220,8 @@ returns-then-wants_block g c =
       unread = tt;
       met = λ t s. tt;
       moves = only_then 0 before mid after from.moves asks.moves;
-      paced = paced;
-      twice = all_twice c.args.blocks 0 before after paced;
+      caught_up_past = caught_up_past;
+      twice = all_twice c.args.blocks 0 before after caught_up_past;
       bounded = λ t s. within_all c.args.blocks 0 before after (counted t s);
       counted = counted;
     }
@@ -239,7 +239,7 @@ returns g c =
     let asks = c.wants_block.ensures in
     let held = from.moves.1.held in
     let none : c.loop-left.left ≡ 0 = omega (arith, c.loop-left-test.false) in
-    let paced = subst (λ (n : ℕ). ReadMoves (2 * (c.args.blocks - n)) before after) none (none_twice c.args.blocks c.loop-left.left before mid after from.paced asks.moves) in
+    let caught_up_past = subst (λ (n : ℕ). ReadMoves (2 * (c.args.blocks - n)) before after) none (none_twice c.args.blocks c.loop-left.left before mid after from.caught_up_past asks.moves) in
     let counted : IsTrue tells → IsSoundMerge c.args.rows.now tables before.seen.held → ReadMoves (c.args.blocks - 0) before after = λ t s. subst (λ (n : ℕ). ReadMoves (c.args.blocks - n) before after) none (none_more c.args.blocks c.loop-left.left before mid after (from.counted t s) asks.moves) in
     record {
       kept = kept_then tells tables before.seen.held c.args.rows.now old new from.kept (subst (λ (h : Image). StaysAt tells tables h old new) held asks.stays);
@@ -250,15 +250,15 @@ returns g c =
       none_wanted = λ _. asks.none c.if-wants_block.false;
       read_all = λ _. asks.read_all c.if-wants_block.false;
       passes = passes_still tells tables before.seen.held c.args.blocks mid.seen.held c.args.rows.now.walks old.walks new.walks held from.passes asks.stays.sources.numbers_are asks.blocks;
-      heads_pass = λ _. subst (λ (f : KeyFloor). AreHeadsClear f new.walks) (sym asks.stays.floor_is) (asks.clear c.if-wants_block.false);
+      heads_pass = λ _. subst (λ (f : KeyFloor). AreHeadsClear f new.walks) (sym asks.stays.floor_is) (asks.heads_pass c.if-wants_block.false);
       caught_up = λ t _. subst (λ (f : KeyFloor). AreCaughtUp f tables before.seen.held new.walks) (sym asks.stays.floor_is)
-          (subst (λ (h : Image). AreCaughtUp old.floor tables h new.walks) held (asks.ready t c.if-wants_block.false));
+          (subst (λ (h : Image). AreCaughtUp old.floor tables h new.walks) held (asks.caught_up t c.if-wants_block.false));
       fault = tt;
       unread = tt;
       met = λ t s. tt;
       moves = only_then 0 before mid after from.moves asks.moves;
-      paced = paced;
-      twice = all_twice c.args.blocks 0 before after paced;
+      caught_up_past = caught_up_past;
+      twice = all_twice c.args.blocks 0 before after caught_up_past;
       bounded = λ t s. within_all c.args.blocks 0 before after (counted t s);
       counted = counted;
     }

@@ -6,7 +6,7 @@ use Rattle.merge_rows.specs.Reads.{OnlyReads, blocks_left}
 use Rattle.merge_rows.specs.Steps.{IsSoundMerge}
 use Rattle.level_merge.proofs.taking.read_ahead.Given as goal
 
--- so many blocks were read, and no row was passed
+-- a given number of blocks were read, and no row was passed
 abbrev pub invariant-loop-left : goal.invariant-loop-left
 invariant-loop-left g l =
     let tells = g.D.Disk.tells in
@@ -20,7 +20,7 @@ invariant-loop-left g l =
       some : l.left < l.blocks → blocks_left tables l.rows.walks < blocks_left tables l.fn.rows.walks;
       passes : PassesBlocks tells tables before.seen.held l.blocks l.fn.rows.walks l.rows.walks;
       moves : OnlyReads before after;
-      paced : ReadMoves (2 * (l.blocks - l.left)) before after;
+      caught_up_past : ReadMoves (2 * (l.blocks - l.left)) before after;
       counted : IsTrue tells → IsSoundMerge l.fn.rows tables before.seen.held → ReadMoves (l.blocks - l.left) before after;
     }
 

@@ -71,7 +71,7 @@ loop-rows-init g c =
       passes = passes_none g.D.Disk.tells tables before.seen.held c.args.blocks c.args.rows.now.walks;
       some = λ less. absurd (omega (arith, less));
       moves = (0, reads_none 0 before);
-      paced = reads_none (2 * (c.args.blocks - c.args.blocks)) before;
+      caught_up_past = reads_none (2 * (c.args.blocks - c.args.blocks)) before;
       counted = λ t s. reads_none (c.args.blocks - c.args.blocks) before;
     }
 
@@ -115,7 +115,7 @@ loop-rows-preserved g c =
           within from.fills.fewer (let two = read.fewer in omega (arith, left, two)) from.some
           (λ fewer. let fell = subst (λ (o : Option ℕ). left_of o < c.loop-rows.left → blocks_left tables mid.walks < blocks_left tables old.walks) is read.some fewer in omega (arith, fell, left));
       moves = only_both before start after from.moves c.read_ahead.ensures.moves;
-      paced = both_twice c.args.blocks c.loop-rows.left rest before start after within from.within from.paced (subst (λ (o : Option ℕ). ReadMoves (2 * (c.loop-rows.left - left_of o)) start after) is read.paced);
+      caught_up_past = both_twice c.args.blocks c.loop-rows.left rest before start after within from.within from.caught_up_past (subst (λ (o : Option ℕ). ReadMoves (2 * (c.loop-rows.left - left_of o)) start after) is read.caught_up_past);
       counted = λ t s. both_within c.args.blocks c.loop-rows.left rest before start after within from.within (from.counted t s)
           (subst (λ (o : Option ℕ). ReadMoves (c.loop-rows.left - left_of o) start after) is (read.counted t (subst (IsSoundMerge old tables) (sym held) (from.stay.sound t s))));
     }
@@ -124,7 +124,7 @@ loop-rows-preserved g c =
 
 pub returns-in_err-ahead-clause-twice : goal.returns-in_err-ahead-clause-twice
 returns-in_err-ahead-clause-twice g c = then_twice c.args.blocks c.loop-rows.left (2 * c.loop-rows.left) (g.D.Disk.world c.args.disk.now) (g.D.Disk.world c.loop-rows.disk) (g.D.Disk.world c.read_ahead.new.disk)
-    (omega arith) c.loop-rows.invariant.within c.loop-rows.invariant.paced c.read_ahead.ensures.twice
+    (omega arith) c.loop-rows.invariant.within c.loop-rows.invariant.caught_up_past c.read_ahead.ensures.twice
 
 pub returns-in_err-ahead-clause-moves : goal.returns-in_err-ahead-clause-moves
 returns-in_err-ahead-clause-moves g c =
@@ -144,7 +144,7 @@ returns-in_err-ahead-clause-unread g c none =
     let some = c.in_err-ahead.ensures.unread in
     absurd (omega (arith, none, some, c.loop-rows.invariant.within))
 
--- the next row wants a block
+-- the next row needs a block
 pub returns-in_default-clause-stop : goal.returns-in_default-clause-stop
 returns-in_default-clause-stop g c =
     let tables = c.args.tables.now.tables in
@@ -162,7 +162,7 @@ returns-in_default-clause-stop g c =
 
 pub returns-in_default-clause-twice : goal.returns-in_default-clause-twice
 returns-in_default-clause-twice g c = then_twice c.args.blocks c.loop-rows.left (2 * c.loop-rows.left) (g.D.Disk.world c.args.disk.now) (g.D.Disk.world c.loop-rows.disk) (g.D.Disk.world c.read_ahead.new.disk)
-    (omega arith) c.loop-rows.invariant.within c.loop-rows.invariant.paced c.read_ahead.ensures.twice
+    (omega arith) c.loop-rows.invariant.within c.loop-rows.invariant.caught_up_past c.read_ahead.ensures.twice
 
 pub returns-in_default-clause-moves : goal.returns-in_default-clause-moves
 returns-in_default-clause-moves g c =
@@ -242,7 +242,7 @@ returns-then-not-advance_filled-clause-stop g c =
 
 pub returns-then-not-advance_filled-clause-twice : goal.returns-then-not-advance_filled-clause-twice
 returns-then-not-advance_filled-clause-twice g c = then_twice c.args.blocks c.loop-rows.left (2 * c.loop-rows.left) (g.D.Disk.world c.args.disk.now) (g.D.Disk.world c.loop-rows.disk) (g.D.Disk.world c.read_ahead.new.disk)
-    (omega arith) c.loop-rows.invariant.within c.loop-rows.invariant.paced c.read_ahead.ensures.twice
+    (omega arith) c.loop-rows.invariant.within c.loop-rows.invariant.caught_up_past c.read_ahead.ensures.twice
 
 pub returns-then-not-advance_filled-clause-moves : goal.returns-then-not-advance_filled-clause-moves
 returns-then-not-advance_filled-clause-moves g c =
@@ -281,7 +281,7 @@ returns-in_err-add_row-clause-building g c =
 
 pub returns-in_err-add_row-clause-twice : goal.returns-in_err-add_row-clause-twice
 returns-in_err-add_row-clause-twice g c = then_twice c.args.blocks c.loop-rows.left (2 * c.loop-rows.left) (g.D.Disk.world c.args.disk.now) (g.D.Disk.world c.loop-rows.disk) (g.D.Disk.world c.read_ahead.new.disk)
-    (omega arith) c.loop-rows.invariant.within c.loop-rows.invariant.paced c.read_ahead.ensures.twice
+    (omega arith) c.loop-rows.invariant.within c.loop-rows.invariant.caught_up_past c.read_ahead.ensures.twice
 
 pub returns-in_err-add_row-clause-moves : goal.returns-in_err-add_row-clause-moves
 returns-in_err-add_row-clause-moves g c =

@@ -9,7 +9,7 @@ use Rattle.merge_rows.specs.Steps.{IsSoundMerge, SourcesStay}
 use Rattle.merge_rows.proofs.Rank.{height, strings}
 use Rattle.level_merge.proofs.taking.take_rows.Given as goal
 
--- rows were taken, and so many blocks were read for them
+-- rows were taken, and a given number of blocks were read for them
 abbrev pub invariant-loop-rows : goal.invariant-loop-rows
 invariant-loop-rows g l =
     let tells = g.D.Disk.tells in
@@ -25,7 +25,7 @@ invariant-loop-rows g l =
       passes : PassesBlocks tells tables before.seen.held l.blocks l.fn.rows.walks l.rows.walks;
       some : l.left < l.blocks → blocks_left tables l.rows.walks < blocks_left tables l.fn.rows.walks;
       moves : OnlyReads before after;
-      paced : ReadMoves (2 * (l.blocks - l.left)) before after;
+      caught_up_past : ReadMoves (2 * (l.blocks - l.left)) before after;
       counted : IsTrue tells → IsSoundMerge l.fn.rows tables before.seen.held → ReadMoves (l.blocks - l.left) before after;
     }
 

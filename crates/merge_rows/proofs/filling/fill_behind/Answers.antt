@@ -34,14 +34,14 @@ returns g c =
       numbers_are = fills.numbers_are ∙ passed.numbers_are;
       stands_are = fills.stands_are ∙ passed.stands_are;
       same = λ t. subst (λ (h : Image). map (left_above floor tables h) new ≡ map (left_above floor tables h) mid) still.held (fills.same t) ∙ passed.same t;
-      ready = λ t. subst (λ (h : Image). IfOk result (λ read. read ≡ false → AreCaughtUp floor tables h new)) still.held (fills.ready t);
-      clear = fills.clear;
+      caught_up = λ t. subst (λ (h : Image). IfOk result (λ read. read ≡ false → AreCaughtUp floor tables h new)) still.held (fills.caught_up t);
+      heads_pass = fills.heads_pass;
       sound = λ t sound. subst (λ (h : Image). AreSoundWalks floor tables h mid → AreSoundWalks floor tables h new) still.held (fills.sound t) (passed.sound t sound);
       read_sound = λ t. pass_then tables before.seen.held old mid new (pass_alike tables before.seen.held old mid passed.numbers_are passed.blocks) (subst (λ (h : Image). PassSound tables h mid new) still.held (fills.read_sound t));
       done = fills.done;
       read_all = fills.read_all;
-      met = subst (λ (n : ℕ). OnErr result (1 ≤ n)) (lengths_are mid old passed.numbers_are) fills.met;
-      taken = fills.taken;
+      only_if_read = subst (λ (n : ℕ). OnErr result (1 ≤ n)) (lengths_are mid old passed.numbers_are) fills.only_if_read;
+      never_memory = fills.never_memory;
       cause = err_then result _ _ fills.cause (λ why is. (
         is.0,
         subst (λ (which : List ℕ). Contains which is.0) passed.numbers_are is.1,

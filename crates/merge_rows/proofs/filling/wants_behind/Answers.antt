@@ -31,8 +31,8 @@ returns g c =
         some = asks.some;
         none = asks.none;
         read_all = asks.read_all;
-        ready = λ t none. subst (λ (h : Image). AreCaughtUp floor tables h new) held (asks.ready t none);
-        clear = asks.clear;
+        caught_up = λ t none. subst (λ (h : Image). AreCaughtUp floor tables h new) held (asks.caught_up t none);
+        heads_pass = asks.heads_pass;
       };
       moves = reads_then 0 0 (g.D.Disk.world c.args.disk.now) (g.D.Disk.world c.pass_row.new.disk) (g.D.Disk.world c.wants_any.new.disk) c.pass_row.ensures.moves c.wants_any.ensures.moves;
     }

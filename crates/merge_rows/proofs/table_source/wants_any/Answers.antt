@@ -64,8 +64,8 @@ loop-i-preserved g c =
         number = c.pass.ensures.number;
         room = c.pass.ensures.room;
         same = λ t. subst (λ (h : Image). left_above floor tables h x ≡ left_above floor tables h (get_or now i d)) held (c.pass.ensures.same t);
-        ready = λ t. subst (λ (h : Image). IsCaughtUp floor x.walk.now (walk_left tables h x)) held (c.pass.ensures.ready t c.if-pass.false);
-        clear = c.pass.ensures.clear c.if-pass.false;
+        caught_up = λ t. subst (λ (h : Image). IsCaughtUp floor x.walk.now (walk_left tables h x)) held (c.pass.ensures.caught_up t c.if-pass.false);
+        heads_pass = c.pass.ensures.heads_pass c.if-pass.false;
         sound = λ t s. subst (λ (n : ℕ). IsSoundWalk floor x.walk (blocks_in (numbered tables n) image)) (sym c.pass.ensures.number)
             (subst (λ (h : Image). IsSoundWalk floor (get_or now i d).walk (blocks_in (numbered tables (get_or now i d).number) h) → IsSoundWalk floor x.walk (blocks_in (numbered tables (get_or now i d).number) h)) held (c.pass.ensures.sound t) s);
         block = λ t. c.pass.ensures.block;
@@ -117,8 +117,8 @@ returns-then-pass g c =
         some = λ _. set_some (wanted_block_of floor tables) now i x lt (c.pass.ensures.asked ∙ ap ones c.if-pass.true);
         none = λ none. absurd (false≢true (sym none));
         read_all = λ none. absurd (false≢true (sym none));
-        ready = λ t none. absurd (false≢true (sym none));
-        clear = λ none. absurd (false≢true (sym none));
+        caught_up = λ t none. absurd (false≢true (sym none));
+        heads_pass = λ none. absurd (false≢true (sym none));
       };
       moves = reads_then 0 0 before (g.D.Disk.world c.loop-i.disk) (g.D.Disk.world c.pass.new.disk) c.loop-i.invariant.moves c.pass.ensures.moves;
     }
@@ -146,8 +146,8 @@ returns g c =
         some = λ some. absurd (false≢true some);
         none = λ _. all_none tells floor tables image i old now c.loop-i-test.false went;
         read_all = λ _. all_whole tells floor tables image i old now c.loop-i-test.false went;
-        ready = λ t none. all_ready tells floor tables image i old now c.loop-i-test.false t went;
-        clear = λ none. all_clear tells floor tables image i old now c.loop-i-test.false went;
+        caught_up = λ t none. all_ready tells floor tables image i old now c.loop-i-test.false t went;
+        heads_pass = λ none. all_clear tells floor tables image i old now c.loop-i-test.false went;
       };
       moves = c.loop-i.invariant.moves;
     }

@@ -3,6 +3,7 @@ use Rattle.std.specs.Prelude.{codes}
 use Rattle.block_model.specs.Bodies.{entries_bytes}
 use Rattle.block_model.specs.Pages.{block_length, block_pages, blocks_of, data_pages, index_length, pages_for}
 use Rattle.entry_model.specs.Entries.{filled, gap, put_entry}
+use Rattle.range_model.specs.Sources.{Sets}
 use Rattle.key_base.specs.Limits.{last_epoch}
 use Rattle.state_model.specs.Bounds.{get_bound, seek_bound}
 use Rattle.state_model.specs.Examples.{aa1_and_ab1, one_byte, small_store}
@@ -52,4 +53,4 @@ returns-clause-not_a_count_that_it_denies c = λ reads. let none : seek_bound (p
 
 pub returns-clause-a_compaction_of_a_table : goal.returns-clause-a_compaction_of_a_table
 unfolding pages_for entries_bytes block_length block_pages blocks_of data_pages index_length filled gap last_epoch
-returns-clause-a_compaction_of_a_table c = (((λ none. let wrong : (put_entry (codes "aa1") (1 ∷ []) ∷ put_entry (codes "ab1") (2 ∷ []) ∷ []) ≡ [] = none in cc), (λ last. omega (arith, last))), (λ none. let one : length (played one_byte small_store aa1_and_ab1).1.tables ≡ 1 = refl in let no : length (played one_byte small_store aa1_and_ab1).1.tables ≡ 0 = ap (λ (l : List Table). length l) none in absurd (omega (arith, one, no))))
+returns-clause-a_compaction_of_a_table c = (((λ none. let wrong : (Sets (put_entry (codes "aa1") (1 ∷ [])) ∷ Sets (put_entry (codes "ab1") (2 ∷ [])) ∷ []) ≡ [] = none in cc), (λ last. omega (arith, last))), (λ none. let one : length (played one_byte small_store aa1_and_ab1).1.tables ≡ 1 = refl in let no : length (played one_byte small_store aa1_and_ab1).1.tables ≡ 0 = ap (λ (l : List Table). length l) none in absurd (omega (arith, one, no))))

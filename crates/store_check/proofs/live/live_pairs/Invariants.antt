@@ -4,7 +4,7 @@ use Rattle.merge_rows.specs.Steps.{AreWalksIn, IsSoundMerge, stands}
 use Rattle.store_check.specs.Causes.{OnlyReads}
 use Rattle.store_check.proofs.live.live_pairs.Given as goal
 
--- so many rows were given, and the others are still to come
+-- a given number of rows were given, and the others are still to come
 abbrev pub invariant-loop-live : goal.invariant-loop-live
 invariant-loop-live g l =
     let image = (g.D.Disk.world l.fn.disk).seen.held in

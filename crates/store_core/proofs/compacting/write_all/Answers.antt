@@ -1,5 +1,5 @@
 use Rattle.std.proofs.Common.{◌≡◌, ◌∙◌, List, length, map, sym, ap, subst}
-use Rattle.std.specs.Prelude.{Ok}
+use Rattle.std.specs.Prelude.{Ok, None}
 use Rattle.std.specs.List.{AllByRecursion}
 use Rattle.std.proofs.lemmas.List.{append-nil}
 use Rattle.byte_fields.specs.declared.parts.Row.{Row}
@@ -31,6 +31,7 @@ use Rattle.store_core.proofs.CompactFaults.{fails_so, none_moved, refused_so, sl
 use Rattle.store_core.proofs.CompactRuns.{IsCompacting, compacted_rows, compacting_begun, compacting_more}
 use Rattle.store_core.proofs.CompactSlices.{IsGoing, all_are_made, free_begun, going_begun, makes_not, makes_on, slice_goes_on, slice_refused, slice_stays, taken_is}
 use Rattle.store_core.proofs.CompactSound.{SoundBefore, all_passed, before_on, begun_before, begun_numbers}
+use Rattle.store_core.proofs.Recorded.{shown_only}
 use Rattle.store_core.proofs.compacting.write_all.Goals as goal
 
 pub extents_of-requires-clause-laid : goal.extents_of-requires-clause-laid
@@ -61,7 +62,7 @@ loop-job-init g c =
           let under = held.images a.seen.held (g.met.D.Disk.current c.args.disk.now tells) in
           let is = taken_is spelling bytes m opened c.requires.slot c.requires.rows s held.no_job held.none_kept a.seen.held under in
           let same = free_begun spelling bytes m opened c.requires.slot c.requires.rows s held.no_job held.none_kept free.extents c.in_ok-extents.ensures.extents is in
-          let begun = going_begun spelling bytes m opened c.requires.slot c.requires.rows s held.no_job held.none_kept c.merges_begin.ensures.compaction a entries free held.memory held.images under.tables
+          let begun = going_begun spelling bytes m opened c.requires.slot c.requires.rows s held.no_job held.none_kept c.merges_begin.ensures.compaction (shown_only spelling m opened None s a.seen.held under) a entries free held.memory held.images under.tables
           (c.in_ok-extents.ensures.pages ∙ sym under.ready.named.pages) same is in
           subst (λ (x : JobValue). IsGoing spelling bytes m opened s a a x free) (sym c.in_ok-job.ensures.begun)
           (subst (λ (set : Settings). IsGoing spelling bytes m opened s a a (compaction entries set opened) free) (under.ready.named.settings ∙ sym settings) begun);

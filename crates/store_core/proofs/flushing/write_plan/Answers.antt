@@ -25,9 +25,9 @@ returns-in_err-write_parts-clause-replaces g c store s over tells whole tied dif
     let a = g.D.Disk.world c.args.disk.now in
     let b = g.D.Disk.world c.write_parts.new.disk in
     let seen = subst (λ (p : Plan g.row.F.Denot). IsPlan spelling cutoff store.manifest (outputs_in store.job) (memory over) p.parts p.row p.next) (sym c.plan.view_is) plan in
-    subst (λ (o : State). FlushedTo spelling cutoff store s o c.args.plan.now.parts c.args.plan.now.row c.args.plan.now.next c.from_residual.result a b) (sym differs)
+    subst (λ (o : State). FlushedTo spelling cutoff store s o c.args.plan.now.parts c.args.plan.now.row c.args.plan.now.next c.from_residual.result a b) (sym differs.0)
     (subst (λ (p : Plan g.row.F.Denot). FlushedTo spelling cutoff store s (record s { log = over.log }) p.parts p.row p.next c.from_residual.result a b) c.plan.view_is
-    (no_table c.jobs_are_followed.ensures.image c.jobs_are_followed.ensures.flush spelling cutoff store s over.log _ _ _ whole seen a tied (g.met.D.Disk.current c.args.disk.now tells)
+    (no_table c.jobs_are_followed.ensures.image c.jobs_are_followed.ensures.flush spelling cutoff store s over.log _ _ _ whole seen differs.1 a tied (g.met.D.Disk.current c.args.disk.now tells)
     c.write_parts.result c.from_residual.result b c.write_parts.ensures.moves (c.write_parts.ensures.table 0 tells) (c.write_parts.ensures.stands 0 tells)
     c.from_residual.ensures.0 (no_want c.in_err-write_parts.field-0.0 c.from_residual.result c.from_residual.ensures.1)))
 
@@ -45,9 +45,9 @@ returns-in_err-log-clause-replaces g c store s over tells whole tied differs pla
     let d = g.D.Disk.world c.start.new.disk in
     let seen = subst (λ (p : Plan g.row.F.Denot). IsPlan spelling cutoff store.manifest (outputs_in store.job) (memory over) p.parts p.row p.next) (sym c.plan.view_is) plan in
     let sound = subst (λ (p : Plan g.row.F.Denot). IsVersion p.next.version) (sym c.plan.view_is) c.requires.sound in
-    subst (λ (o : State). FlushedTo spelling cutoff store s o c.args.plan.now.parts c.args.plan.now.row c.args.plan.now.next c.from_residual-in_err-log.result a d) (sym differs)
+    subst (λ (o : State). FlushedTo spelling cutoff store s o c.args.plan.now.parts c.args.plan.now.row c.args.plan.now.next c.from_residual-in_err-log.result a d) (sym differs.0)
     (subst (λ (p : Plan g.row.F.Denot). FlushedTo spelling cutoff store s (record s { log = over.log }) p.parts p.row p.next c.from_residual-in_err-log.result a d) c.plan.view_is
-    (no_log c.jobs_are_followed.ensures.image c.jobs_are_followed.ensures.flush spelling cutoff store s over.log _ _ _ whole seen a tied (g.met.D.Disk.current c.args.disk.now tells)
+    (no_log c.jobs_are_followed.ensures.image c.jobs_are_followed.ensures.flush spelling cutoff store s over.log _ _ _ whole seen differs.1 a tied (g.met.D.Disk.current c.args.disk.now tells)
     _ refl (small_area _ sound.log_page) b d c.write_parts.ensures.moves (c.in_ok-write_parts.ensures.table 0 tells) (c.in_ok-write_parts.ensures.stands 0 tells)
     c.start.ensures.moves c.start.result c.from_residual-in_err-log.result (c.start.ensures.stands tells)
     c.from_residual-in_err-log.ensures.0 (no_want c.in_err-log.field-0.0 c.from_residual-in_err-log.result c.from_residual-in_err-log.ensures.1)))
@@ -67,9 +67,9 @@ returns-in_err-install-clause-replaces g c store s over tells whole tied differs
     let moves = subst (λ (p : Plan g.row.F.Denot). WriteMoves (other_place p.next.slot) 131072 d e) (sym c.plan.view_is) c.install.ensures.moves in
     let leads = subst (λ (p : Plan g.row.F.Denot). Leads (StandsInSlot p.next.slot p.next.other_open from) (IsOldOrNew (install_of p.next from)) (IsInstalled (install_of p.next from)) c.install.result d e)
     (sym c.plan.view_is) (c.install.ensures.crash from tells same) in
-    subst (λ (o : State). FlushedTo spelling cutoff store s o c.args.plan.now.parts c.args.plan.now.row c.args.plan.now.next c.from_residual-in_err-install.result a e) (sym differs)
+    subst (λ (o : State). FlushedTo spelling cutoff store s o c.args.plan.now.parts c.args.plan.now.row c.args.plan.now.next c.from_residual-in_err-install.result a e) (sym differs.0)
     (subst (λ (p : Plan g.row.F.Denot). FlushedTo spelling cutoff store s (record s { log = over.log }) p.parts p.row p.next c.from_residual-in_err-install.result a e) c.plan.view_is
-    (no_install c.jobs_are_followed.ensures.image c.jobs_are_followed.ensures.flush spelling cutoff store s over.log _ _ _ whole seen a tied (g.met.D.Disk.current c.args.disk.now tells)
+    (no_install c.jobs_are_followed.ensures.image c.jobs_are_followed.ensures.flush spelling cutoff store s over.log _ _ _ whole seen differs.1 a tied (g.met.D.Disk.current c.args.disk.now tells)
     _ refl (small_area _ sound.log_page) b d c.write_parts.ensures.moves (c.in_ok-write_parts.ensures.table 0 tells) (c.in_ok-write_parts.ensures.stands 0 tells)
     c.start.ensures.moves e (c.in_ok-log.ensures.stands tells) sound moves c.install.result c.from_residual-in_err-install.result leads
     c.from_residual-in_err-install.ensures.0 (still_wanted c.in_err-install.field-0.0 _ c.from_residual-in_err-install.result d e c.from_residual-in_err-install.ensures.1 c.in_err-install.ensures.cause)))
@@ -89,9 +89,9 @@ returns-clause-replaces g c store s over tells whole tied differs plan =
     let moves = subst (λ (p : Plan g.row.F.Denot). WriteMoves (other_place p.next.slot) 131072 d e) (sym c.plan.view_is) c.install.ensures.moves in
     let leads = subst (λ (p : Plan g.row.F.Denot). Leads {E = ManifestFault} (StandsInSlot p.next.slot p.next.other_open from) (IsOldOrNew (install_of p.next from)) (IsInstalled (install_of p.next from)) (Ok c.in_ok-install.field-0) d e)
     (sym c.plan.view_is) (c.in_ok-install.ensures.crash from tells same) in
-    subst (λ (o : State). FlushedTo spelling cutoff store s o c.args.plan.now.parts c.args.plan.now.row c.args.plan.now.next (Ok c.in_ok-log.log) a e) (sym differs)
+    subst (λ (o : State). FlushedTo spelling cutoff store s o c.args.plan.now.parts c.args.plan.now.row c.args.plan.now.next (Ok c.in_ok-log.log) a e) (sym differs.0)
     (subst (λ (p : Plan g.row.F.Denot). FlushedTo spelling cutoff store s (record s { log = over.log }) p.parts p.row p.next (Ok c.in_ok-log.log) a e) c.plan.view_is
-    (installed c.jobs_are_followed.ensures.image c.jobs_are_followed.ensures.flush spelling cutoff store s over.log _ _ _ whole seen a tied (g.met.D.Disk.current c.args.disk.now tells)
+    (installed c.jobs_are_followed.ensures.image c.jobs_are_followed.ensures.flush spelling cutoff store s over.log _ _ _ whole seen differs.1 a tied (g.met.D.Disk.current c.args.disk.now tells)
     _ refl (small_area _ sound.log_page) b d c.write_parts.ensures.moves (c.in_ok-write_parts.ensures.table 0 tells) (c.in_ok-write_parts.ensures.stands 0 tells)
     c.start.ensures.moves e (c.in_ok-log.ensures.stands tells) sound moves c.in_ok-install.field-0 c.in_ok-log.log leads))
 

@@ -69,13 +69,13 @@ returns-in_err-advance-clause-tried g c so sound =
 pub returns-in_err-advance-clause-only_if_read : goal.returns-in_err-advance-clause-only_if_read
 returns-in_err-advance-clause-only_if_read g c =
     let many = as_many_walks c.loop-rows.rows.walks c.args.rows.now.walks c.loop-rows.invariant.way.kept.numbers_are in
-    let here : 1 ≤ length c.args.rows.now.walks = omega (arith, many, c.in_err-advance.ensures.met) in
+    let here : 1 ≤ length c.args.rows.now.walks = omega (arith, many, c.in_err-advance.ensures.only_if_read) in
     search rules
 
 pub returns-in_err-advance-clause-cause : goal.returns-in_err-advance-clause-cause
 returns-in_err-advance-clause-cause g c =
     let here = block_cause (g.D.Disk.world c.args.disk.now) (g.D.Disk.world c.loop-rows.disk) (g.D.Disk.world c.advance.new.disk) c.args.tables.now.tables (numbers c.loop-rows.rows.walks) c.in_err-advance.field-0.0
-    c.loop-rows.invariant.moves c.in_err-advance.ensures.taken c.in_err-advance.ensures.cause in
+    c.loop-rows.invariant.moves c.in_err-advance.ensures.never_memory c.in_err-advance.ensures.cause in
     search rules
 
 pub returns-in_err-advance-clause-fault : goal.returns-in_err-advance-clause-fault
@@ -107,7 +107,7 @@ returns-in-None-clause-pairs g c so sound =
     none_left g.D.Disk.tells before.seen.held tables (option_map (λ v. v.items) c.args.high.now) c.args.rows.now c.requires.keeps before.seen.reads c.loop-rows.rows
     (g.D.Disk.world c.loop-rows.disk).seen.reads c.loop-rows.invariant.way c.advance.new.self (g.D.Disk.world c.advance.new.disk).seen.reads
     (λ so keeps sound. (c.advance.ensures.bounded so keeps (subst (λ (f : Image). IsSoundMerge c.loop-rows.rows tables f) (sym same) sound)).reads) kept step
-    (λ so keeps. paced_at g.D.Disk.tells tables _ _ same c.loop-rows.rows c.advance.new.self (c.in_ok-advance.ensures.paced so keeps))
+    (λ so keeps. paced_at g.D.Disk.tells tables _ _ same c.loop-rows.rows c.advance.new.self (c.in_ok-advance.ensures.caught_up_past so keeps))
     (sym c.in-None.ensures.now) so sound
 
 pub returns-in-None-clause-bounded : goal.returns-in-None-clause-bounded
@@ -150,7 +150,7 @@ returns-then-is_above-clause-pairs g c so sound =
     none_below g.D.Disk.tells before.seen.held tables (option_map (λ v. v.items) c.args.high.now) c.args.rows.now c.requires.keeps before.seen.reads c.loop-rows.rows
     (g.D.Disk.world c.loop-rows.disk).seen.reads c.loop-rows.invariant.way c.advance.new.self (g.D.Disk.world c.advance.new.disk).seen.reads
     (λ so keeps sound. (c.advance.ensures.bounded so keeps (subst (λ (f : Image). IsSoundMerge c.loop-rows.rows tables f) (sym same) sound)).reads) kept step
-    (λ so keeps. paced_at g.D.Disk.tells tables _ _ same c.loop-rows.rows c.advance.new.self (c.in_ok-advance.ensures.paced so keeps))
+    (λ so keeps. paced_at g.D.Disk.tells tables _ _ same c.loop-rows.rows c.advance.new.self (c.in_ok-advance.ensures.caught_up_past so keeps))
     row some (c.is_above.ensures ∙ ap not c.if-is_above.true) so sound
 
 pub returns-then-is_above-clause-bounded : goal.returns-then-is_above-clause-bounded
@@ -199,7 +199,7 @@ returns-then-is_some-clause-pairs g c so sound =
     pair_given g.D.Disk.tells before.seen.held tables (option_map (λ v. v.items) c.args.high.now) c.args.rows.now c.requires.keeps before.seen.reads c.loop-rows.rows
     (g.D.Disk.world c.loop-rows.disk).seen.reads c.loop-rows.invariant.way c.advance.new.self (g.D.Disk.world c.advance.new.disk).seen.reads
     (λ so keeps sound. (c.advance.ensures.bounded so keeps (subst (λ (f : Image). IsSoundMerge c.loop-rows.rows tables f) (sym same) sound)).reads) kept step
-    (λ so keeps. paced_at g.D.Disk.tells tables _ _ same c.loop-rows.rows c.advance.new.self (c.in_ok-advance.ensures.paced so keeps))
+    (λ so keeps. paced_at g.D.Disk.tells tables _ _ same c.loop-rows.rows c.advance.new.self (c.in_ok-advance.ensures.caught_up_past so keeps))
     row some (c.is_above.ensures ∙ ap not c.if-is_above.false) (some_mapped (λ v. v.now) c.in-Some.value ∙ sym c.is_some.ensures ∙ c.if-is_some.true) so sound
 
 pub returns-then-is_some-clause-bounded : goal.returns-then-is_some-clause-bounded
@@ -244,13 +244,13 @@ loop-rows-preserved g c =
       way = one_on g.D.Disk.tells before.seen.held tables (option_map (λ v. v.items) c.args.high.now) c.args.rows.now c.requires.keeps before.seen.reads c.loop-rows.rows
           (g.D.Disk.world c.loop-rows.disk).seen.reads c.loop-rows.invariant.way c.advance.new.self (g.D.Disk.world c.advance.new.disk).seen.reads
           (λ so keeps sound. (c.advance.ensures.bounded so keeps (subst (λ (f : Image). IsSoundMerge c.loop-rows.rows tables f) (sym same) sound)).reads) kept step
-          (λ so keeps. paced_at g.D.Disk.tells tables _ _ same c.loop-rows.rows c.advance.new.self (c.in_ok-advance.ensures.paced so keeps))
+          (λ so keeps. paced_at g.D.Disk.tells tables _ _ same c.loop-rows.rows c.advance.new.self (c.in_ok-advance.ensures.caught_up_past so keeps))
           c.merged_laws.ensures row some (c.is_above.ensures ∙ ap not c.if-is_above.false)
           (none_value (option_map (λ v. v.now) c.in-Some.value) (some_mapped (λ v. v.now) c.in-Some.value ∙ sym c.is_some.ensures ∙ c.if-is_some.false))
           (λ so sound. c.in_ok-advance.ensures.spent so (subst (λ (f : Image). IsSoundMerge c.loop-rows.rows tables f) (sym same) sound));
       passes = λ so. passed_on tables tables (g.D.Disk.world c.loop-rows.disk).seen.held before.seen.held c.args.rows.now.walks c.loop-rows.rows.walks c.advance.new.self.walks refl same (c.loop-rows.invariant.passes so) (c.advance.ensures.read_sound so);
       goes = λ so. (next_steps tables (g.D.Disk.world c.loop-rows.disk).seen.held before.seen.held c.args.rows.now c.loop-rows.rows c.advance.new.self same (c.loop-rows.invariant.goes so)
-          (c.in_ok-advance.ensures.paced so (c.loop-rows.invariant.way.kept.drops_are ∙ c.requires.keeps)) c.in_ok-advance.ensures.row.passes).on;
+          (c.in_ok-advance.ensures.caught_up_past so (c.loop-rows.invariant.way.kept.drops_are ∙ c.requires.keeps)) c.in_ok-advance.ensures.row.passes).on;
       moves = reads_on before (g.D.Disk.world c.loop-rows.disk) (g.D.Disk.world c.advance.new.disk) c.loop-rows.invariant.moves c.advance.ensures.moves;
     }
 
@@ -272,7 +272,7 @@ returns-clause-pairs g c so sound =
     none_left g.D.Disk.tells before.seen.held tables (option_map (λ v. v.items) c.args.high.now) c.args.rows.now c.requires.keeps before.seen.reads c.loop-rows.rows
     (g.D.Disk.world c.loop-rows.disk).seen.reads c.loop-rows.invariant.way c.advance.new.self (g.D.Disk.world c.advance.new.disk).seen.reads
     (λ so keeps sound. (c.advance.ensures.bounded so keeps (subst (λ (f : Image). IsSoundMerge c.loop-rows.rows tables f) (sym same) sound)).reads) kept step
-    (λ so keeps. paced_at g.D.Disk.tells tables _ _ same c.loop-rows.rows c.advance.new.self (c.in_ok-advance.ensures.paced so keeps))
+    (λ so keeps. paced_at g.D.Disk.tells tables _ _ same c.loop-rows.rows c.advance.new.self (c.in_ok-advance.ensures.caught_up_past so keeps))
     (none_of c.advance.new.self.now (sym c.in_ok-advance.ensures.said ∙ c.if-branch.false)) so sound
 
 pub returns-clause-bounded : goal.returns-clause-bounded
@@ -350,19 +350,19 @@ returns-clause-done g c none =
 pub returns-in-None-clause-steps : goal.returns-in-None-clause-steps
 returns-in-None-clause-steps g c so =
     next_steps c.args.tables.now.tables (g.D.Disk.world c.loop-rows.disk).seen.held (g.D.Disk.world c.args.disk.now).seen.held c.args.rows.now c.loop-rows.rows c.advance.new.self
-    c.loop-rows.invariant.moves.1.held (c.loop-rows.invariant.goes so) (c.in_ok-advance.ensures.paced so (c.loop-rows.invariant.way.kept.drops_are ∙ c.requires.keeps)) c.in_ok-advance.ensures.row.passes
+    c.loop-rows.invariant.moves.1.held (c.loop-rows.invariant.goes so) (c.in_ok-advance.ensures.caught_up_past so (c.loop-rows.invariant.way.kept.drops_are ∙ c.requires.keeps)) c.in_ok-advance.ensures.row.passes
 
 pub returns-then-is_above-clause-steps : goal.returns-then-is_above-clause-steps
 returns-then-is_above-clause-steps g c so =
     next_steps c.args.tables.now.tables (g.D.Disk.world c.loop-rows.disk).seen.held (g.D.Disk.world c.args.disk.now).seen.held c.args.rows.now c.loop-rows.rows c.advance.new.self
-    c.loop-rows.invariant.moves.1.held (c.loop-rows.invariant.goes so) (c.in_ok-advance.ensures.paced so (c.loop-rows.invariant.way.kept.drops_are ∙ c.requires.keeps)) c.in_ok-advance.ensures.row.passes
+    c.loop-rows.invariant.moves.1.held (c.loop-rows.invariant.goes so) (c.in_ok-advance.ensures.caught_up_past so (c.loop-rows.invariant.way.kept.drops_are ∙ c.requires.keeps)) c.in_ok-advance.ensures.row.passes
 
 pub returns-then-is_some-clause-steps : goal.returns-then-is_some-clause-steps
 returns-then-is_some-clause-steps g c so =
     next_steps c.args.tables.now.tables (g.D.Disk.world c.loop-rows.disk).seen.held (g.D.Disk.world c.args.disk.now).seen.held c.args.rows.now c.loop-rows.rows c.advance.new.self
-    c.loop-rows.invariant.moves.1.held (c.loop-rows.invariant.goes so) (c.in_ok-advance.ensures.paced so (c.loop-rows.invariant.way.kept.drops_are ∙ c.requires.keeps)) c.in_ok-advance.ensures.row.passes
+    c.loop-rows.invariant.moves.1.held (c.loop-rows.invariant.goes so) (c.in_ok-advance.ensures.caught_up_past so (c.loop-rows.invariant.way.kept.drops_are ∙ c.requires.keeps)) c.in_ok-advance.ensures.row.passes
 
 pub returns-clause-steps : goal.returns-clause-steps
 returns-clause-steps g c so =
     next_steps c.args.tables.now.tables (g.D.Disk.world c.loop-rows.disk).seen.held (g.D.Disk.world c.args.disk.now).seen.held c.args.rows.now c.loop-rows.rows c.advance.new.self
-    c.loop-rows.invariant.moves.1.held (c.loop-rows.invariant.goes so) (c.in_ok-advance.ensures.paced so (c.loop-rows.invariant.way.kept.drops_are ∙ c.requires.keeps)) c.in_ok-advance.ensures.row.passes
+    c.loop-rows.invariant.moves.1.held (c.loop-rows.invariant.goes so) (c.in_ok-advance.ensures.caught_up_past so (c.loop-rows.invariant.way.kept.drops_are ∙ c.requires.keeps)) c.in_ok-advance.ensures.row.passes

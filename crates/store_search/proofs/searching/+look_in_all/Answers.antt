@@ -3,7 +3,7 @@ use Rattle.std.specs.Option.{option_or}
 use Rattle.std.specs.Prelude.{IfSome, Option}
 use Rattle.disk_trait.proofs.Calls.{reads_none}
 use Rattle.state_model.specs.Bounds.{searched}
-use Rattle.state_model.specs.View.{first_found}
+use Rattle.state_model.specs.WithoutRanges.{first_found}
 use Rattle.store_search.specs.Caching.{BlockAgrees, CacheAgrees, cache_number, past_cache, reads_for, unkept}
 use Rattle.store_search.specs.Searching.{IsReadIn, entries_by_table, said_in}
 use Rattle.store_search.specs.TablesAgree.{TablesAgree}

@@ -2,15 +2,15 @@ use Rattle.std.proofs.Common.{ℕ, ap, arith, refl, subst, sym}
 use Rattle.line_model.specs.Limits.{limit_of}
 use Rattle.line_model.specs.Replies.{Counted}
 use Rattle.line_model.specs.Requests.{Count}
+use Rattle.lines_in.proofs.EndCauses.{line_read, no_fall_say}
+use Rattle.lines_in.specs.declared.line_end.LineEnd.TheVariants.{Next}
 use Rattle.state_model.specs.Bounds.{seek_bound}
 use Rattle.state_model.specs.Steps.{Reads}
 use Rattle.store_core.specs.Answers.{HasCause}
 use Rattle.store_core.specs.Scans.{IsScanShown}
 use Rattle.surf_run.specs.Kind.{filter_kind}
 use Rattle.surf_run.proofs.Calms.{asked_step, said_cause, says_damage}
-use Rattle.surf_run.proofs.EndCauses.{line_read, no_fall_say}
 use Rattle.surf_run.proofs.Scans.{met_device, scan_answers, scan_cause, scan_next, scan_refused, scan_told, is_scan_told}
-use Rattle.surf_run.specs.declared.line_end.LineEnd.TheVariants.{Next}
 use Rattle.surf_run.proofs.answers.count_line.Goals as goal
 
 pub returns-in-Ok : goal.returns-in-Ok

@@ -4,16 +4,16 @@ use Rattle.std.specs.Prelude.{Option, Some, None}
 use Rattle.block_model.specs.Pages.{page_bytes}
 use Rattle.line_model.specs.Replies.{Missing, Value}
 use Rattle.line_model.specs.Requests.{Get}
+use Rattle.lines_in.specs.declared.line_end.LineEnd.TheVariants.{Next}
+use Rattle.lines_in.proofs.EndCauses.{line_read, no_fall_say}
+use Rattle.lines_in.proofs.Footprint.{within_still}
 use Rattle.map_model.specs.SortedMap.{get}
 use Rattle.state_model.specs.View.{state_map}
 use Rattle.store_core.specs.Answers.{HasCause}
 use Rattle.store_core.specs.Getting.{IsShown}
 use Rattle.store_core.specs.StoreValue.{StoreValue}
 use Rattle.surf_run.specs.Kind.{filter_kind}
-use Rattle.surf_run.specs.declared.line_end.LineEnd.TheVariants.{Next}
 use Rattle.surf_run.proofs.Calms.{get_cause, get_told, got_step, read_answers, refused_ends, said_cause, says_damage, still_next}
-use Rattle.surf_run.proofs.EndCauses.{line_read, no_fall_say}
-use Rattle.surf_run.proofs.Footprint.{within_still}
 use Rattle.surf_run.proofs.Moments.{tied_stands}
 use Rattle.surf_run.proofs.Values.{value_short}
 use Rattle.surf_run.proofs.answers.get_line.Goals as goal

@@ -2,12 +2,13 @@ use Rattle.std.proofs.Common.{◌*◌, refl, arith}
 use Rattle.block_model.specs.Pages.{page_bytes}
 use Rattle.disk_trait.proofs.Calls.{reads_none}
 use Rattle.line_model.specs.Requests.{Quit}
+use Rattle.lines_in.specs.declared.line_end.LineEnd.TheVariants.{Quit as EndQuit}
+use Rattle.lines_in.proofs.EndCauses.{line_say, no_fall_none}
+use Rattle.lines_in.proofs.Footprint.{within_none}
 use Rattle.store_core.specs.Answers.{HasCause}
 use Rattle.surf_run.specs.Kind.{filter_kind}
-use Rattle.surf_run.specs.declared.line_end.LineEnd.TheVariants.{Quit as EndQuit}
 use Rattle.surf_run.proofs.Calms.{quit_step, runs_any, said_cause, still_quit}
-use Rattle.surf_run.proofs.EndCauses.{line_say, no_fall_none}
-use Rattle.surf_run.proofs.Footprint.{pages_none, pages_say, within_none}
+use Rattle.surf_run.proofs.Footprint.{pages_none, pages_say}
 use Rattle.surf_run.proofs.Moments.{tied_stands}
 use Rattle.surf_run.proofs.answers.quit_line.Goals as goal
 

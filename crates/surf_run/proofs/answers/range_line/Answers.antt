@@ -4,6 +4,8 @@ use Rattle.disk_trait.specs.Image.{Image}
 use Rattle.disk_trait.specs.World.{Streams}
 use Rattle.line_model.specs.Limits.{limit_of}
 use Rattle.line_model.specs.Requests.{Range}
+use Rattle.lines_in.specs.declared.line_end.LineEnd.TheVariants.{End, Next}
+use Rattle.lines_in.proofs.EndCauses.{no_fall_none, no_fall_say, rose_since}
 use Rattle.map_model.specs.Slices.{slice}
 use Rattle.map_model.specs.SortedMap.{Bytes, Map}
 use Rattle.state_model.specs.Steps.{Reads}
@@ -12,9 +14,7 @@ use Rattle.store_core.proofs.ScanCounts.{drop_next, none_pair, scan_count, scan_
 use Rattle.store_core.proofs.Tellings.{seen_as}
 use Rattle.store_core.specs.Scans.{IsScanShown, StillComes, left_behind, opened_tables}
 use Rattle.surf_run.specs.Kind.{filter_kind}
-use Rattle.surf_run.specs.declared.line_end.LineEnd.TheVariants.{End, Next}
 use Rattle.surf_run.proofs.Calms.{behind_damage, runs_any, said_cause}
-use Rattle.surf_run.proofs.EndCauses.{no_fall_none, no_fall_say, rose_since}
 use Rattle.surf_run.proofs.Footprint.{pages_still}
 use Rattle.surf_run.proofs.Ranges.{below_most, one_waits, range_cut, range_done, range_fault, walked_read, walked_say}
 use Rattle.surf_run.proofs.Scans.{never_damaged, no_device, no_reads, scan_answers, scan_cause, scan_refused, scan_told}

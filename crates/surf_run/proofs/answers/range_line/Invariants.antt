@@ -5,7 +5,7 @@ use Rattle.store_core.specs.Scans.{StillComes, opened_tables}
 use Rattle.surf_run.proofs.Ranges.{Walked, pairs_text}
 use Rattle.surf_run.proofs.answers.range_line.Given as goal
 
--- so many of the pairs were said or wait to be said, and the others are still to come
+-- a given number of the pairs were said or wait to be said, and the others are still to come
 abbrev pub invariant-loop-out : goal.invariant-loop-out
 invariant-loop-out g l =
     let a = g.W.Disk.world l.fn.out in

@@ -3,6 +3,8 @@ use Rattle.std.specs.Option.{option_map}
 use Rattle.line_model.specs.Limits.{limit_of}
 use Rattle.line_model.specs.Replies.{found}
 use Rattle.line_model.specs.Requests.{Seek}
+use Rattle.lines_in.proofs.EndCauses.{line_read, no_fall_none, no_fall_say}
+use Rattle.lines_in.specs.declared.line_end.LineEnd.TheVariants.{Next}
 use Rattle.map_model.specs.Slices.{between}
 use Rattle.state_model.specs.Steps.{Reads}
 use Rattle.state_model.specs.View.{state_map}
@@ -12,9 +14,7 @@ use Rattle.store_core.proofs.ScanCounts.{scan_count, scan_undamaged, step_count}
 use Rattle.store_core.proofs.Tellings.{seen_as}
 use Rattle.surf_run.specs.Kind.{filter_kind}
 use Rattle.surf_run.proofs.Calms.{asked_step, said_cause, says_damage}
-use Rattle.surf_run.proofs.EndCauses.{line_read, no_fall_none, no_fall_say}
 use Rattle.surf_run.proofs.Scans.{bounded_seek, found_onward, if_device, is_scan_told, may_seek, never_damaged, no_device, no_reads, scan_answers, scan_cause, scan_next, scan_refused, scan_told}
-use Rattle.surf_run.specs.declared.line_end.LineEnd.TheVariants.{Next}
 use Rattle.surf_run.proofs.answers.seek_line.Goals as goal
 
 pub returns-in-Ok-advance : goal.returns-in-Ok-advance

@@ -4,7 +4,7 @@ use Rattle.store_check.specs.Checks.{steps_left}
 use Rattle.surf_run.specs.Checks.{CheckedSoFar, counted}
 use Rattle.surf_run.proofs.checking.run_check.Given as goal
 
--- some findings were given and said, and so many
+-- some findings were given and said, and that many
 abbrev pub invariant-findings : goal.invariant-findings
 invariant-findings g l =
     let f = g.F.RangeFilter in

@@ -1,8 +1,8 @@
 use Rattle.std.proofs.Common.{◌*◌}
 use Rattle.block_model.specs.Pages.{page_bytes}
+use Rattle.lines_in.proofs.EndCauses.{line_read, line_say, lines_on}
+use Rattle.lines_in.proofs.Footprint.{within_on, within_say, within_still}
 use Rattle.surf_run.specs.Kind.{filter_kind}
-use Rattle.surf_run.proofs.EndCauses.{line_read, line_say, lines_on}
-use Rattle.surf_run.proofs.Footprint.{within_on, within_say, within_still}
 use Rattle.surf_run.proofs.LoadEnds.{line_causes, line_statuses, load_summed, load_unsummed, sum_causes, sum_opening, sum_shown, sum_statuses}
 use Rattle.surf_run.proofs.loading.end_load.Goals as goal
 

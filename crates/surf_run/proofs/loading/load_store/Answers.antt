@@ -1,6 +1,6 @@
 use Rattle.std.proofs.Common.{inl, inr}
 use Rattle.std.specs.Prelude.{IsTrue}
-use Rattle.surf_run.proofs.EndCauses.{causes_on, lines_on}
+use Rattle.lines_in.proofs.EndCauses.{causes_on, lines_on}
 use Rattle.surf_run.proofs.Footprint.{pages_then}
 use Rattle.surf_run.proofs.LoadEnds.{step_causes, step_shown}
 use Rattle.surf_run.proofs.loading.load_store.Goals as goal

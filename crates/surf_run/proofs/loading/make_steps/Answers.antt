@@ -1,10 +1,10 @@
 use Rattle.std.proofs.Common.{rules, ◌≡◌, ◌⊎◌, ◌∙◌, ◌+◌, ℕ, inl, inr, true, false, refl, sym, ap, arith}
 use Rattle.std.specs.Prelude.{IsTrue}
 use Rattle.entry_model.specs.Entries.{entry_of}
+use Rattle.lines_in.proofs.EndCauses.{lines_none, lines_on}
 use Rattle.load_gen.proofs.Steps.{number_more}
 use Rattle.load_gen.specs.Generator.{next_number, step_of}
 use Rattle.surf_run.specs.Kind.{filter_kind}
-use Rattle.surf_run.proofs.EndCauses.{lines_none, lines_on}
 use Rattle.surf_run.proofs.Footprint.{pages_none, pages_on}
 use Rattle.surf_run.proofs.LoadEnds.{load_cut, one_more, step_cause_since}
 use Rattle.surf_run.proofs.loading.make_steps.Goals as goal

@@ -1,13 +1,14 @@
 use Rattle.std.proofs.Common.{◌≡◌, ◌≤◌, false}
 use Rattle.std.specs.Prelude.{IsTrue}
+use Rattle.lines_in.specs.Causes.{LineMoves}
 use Rattle.load_gen.specs.Generator.{number_after}
 use Rattle.state_model.specs.State.{State}
-use Rattle.surf_run.specs.Causes.{LineMoves, WithinPages}
+use Rattle.surf_run.specs.Causes.{WithinPages}
 use Rattle.surf_run.specs.Kind.{filter_kind}
 use Rattle.surf_run.specs.Loading.{LoadInvariant}
 use Rattle.surf_run.proofs.loading.make_steps.Given as goal
 
--- so many steps were made, and nothing was said
+-- a given number of steps were made, and nothing was said
 abbrev pub invariant-loop : goal.invariant-loop
 invariant-loop g l = record {
   number : l.steps ≡ number_after l.fn.load.seed l.counter;

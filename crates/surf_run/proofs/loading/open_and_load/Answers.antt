@@ -1,7 +1,7 @@
 use Rattle.std.proofs.Common.{◌*◌, inl, inr}
 use Rattle.block_model.specs.Pages.{page_bytes}
+use Rattle.lines_in.proofs.EndCauses.{causes_on, lines_on}
 use Rattle.surf_run.specs.Kind.{filter_kind}
-use Rattle.surf_run.proofs.EndCauses.{causes_on, lines_on}
 use Rattle.surf_run.proofs.LoadEnds.{damage_since, ends_completed, ends_never_five, load_ends_by, loaded_now, loaded_open, loading_never_eight, unserved_ends_by}
 use Rattle.surf_run.proofs.Moments.{tied_stands}
 use Rattle.surf_run.proofs.Openings.{opened_ends, opened_within}

@@ -9,6 +9,7 @@ use Rattle.map_model.specs.Slices.{between}
 use Rattle.map_model.specs.SortedMap.{Map}
 use Rattle.state_model.specs.Steps.{Reads}
 use Rattle.state_model.specs.View.{state_map}
+use Rattle.store_core.proofs.Recorded.{shown_only}
 use Rattle.store_core.proofs.ScanCauses.{reads_on}
 use Rattle.store_core.proofs.ScanCounts.{count_few, drop_next, none_behind, none_pair, scan_count, scan_shown, scan_undamaged, some_behind, step_count}
 use Rattle.store_core.proofs.Tellings.{seen_as}
@@ -148,4 +149,4 @@ returns-clause-answer g c s so tied =
     let m = between (state_map s) [] None in
     let first = c.in_ok-scan.ensures.shows s before.seen.held seen in
     c.loop.invariant.summed m so first
-    ∙ ap (λ (p : Map). summary_of p) (take_all c.loop.counter m (omega (arith, c.loop-test.false, c.loop.auto.counter-end, count_few bytes s [] None tied.sound)) ∙ all_between (state_map s))
+    ∙ ap (λ (p : Map). summary_of p) (take_all c.loop.counter m (omega (arith, c.loop-test.false, c.loop.auto.counter-end, count_few bytes s [] None tied.sound (shown_only g.F.RangeFilter.spelling c.args.store.now.manifest c.args.store.now.tables c.args.store.now.job s before.seen.held seen.under))) ∙ all_between (state_map s))

@@ -6,7 +6,7 @@ use Rattle.merge_rows.specs.Reads.{OnlyReads}
 use Rattle.store_core.specs.Scans.{StillComes, opened_tables}
 use Rattle.surf_run.proofs.loading.summarise.Given as goal
 
--- so many pairs are summed, and the others are still to come
+-- a given number of pairs are summed, and the others are still to come
 abbrev pub invariant-loop : goal.invariant-loop
 invariant-loop g l =
     let before = g.W.Disk.world l.fn.out in

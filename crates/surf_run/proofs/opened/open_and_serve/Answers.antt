@@ -2,11 +2,12 @@ use Rattle.std.proofs.Common.{◌+◌, ◌*◌, ◌∙◌, inl, inr, refl, sym, 
 use Rattle.block_model.specs.Pages.{page_bytes}
 use Rattle.disk_trait.specs.World.{Streams}
 use Rattle.image_model.specs.Stands.{IsStateOf}
+use Rattle.lines_in.proofs.EndCauses.{causes_on, no_fall_on}
+use Rattle.lines_in.proofs.LastLines.{completed, never_eight, never_five, read_since}
 use Rattle.surf_run.specs.ServedOrNot.{opening_bound}
 use Rattle.surf_run.specs.Kind.{filter_kind}
 use Rattle.surf_run.specs.Open.{IsFreeText}
-use Rattle.surf_run.proofs.EndCauses.{causes_on, no_fall_on}
-use Rattle.surf_run.proofs.LastLines.{completed, free_status, never_eight, never_five, read_since, unserved_since}
+use Rattle.surf_run.proofs.LastLines.{free_status, unserved_since}
 use Rattle.surf_run.proofs.Moments.{tied_stands}
 use Rattle.surf_run.proofs.Openings.{opened_ends, opened_within, served_now, served_open}
 use Rattle.surf_run.proofs.opened.open_and_serve.Goals as goal

@@ -2,11 +2,12 @@ use Rattle.std.proofs.Common.{◌≡◌, ◌≤◌, ◌+◌, ◌*◌, ◌∙◌,
 use Rattle.disk_trait.specs.World.{Streams}
 use Rattle.image_model.proofs.Opened.{opened_has_none}
 use Rattle.key_base.specs.Limits.{max_tables}
+use Rattle.lines_in.proofs.EndCauses.{no_fall_on, no_fall_say}
+use Rattle.lines_in.proofs.Footprint.{within_on, within_say, within_still}
+use Rattle.lines_in.proofs.LastLines.{read_since, said_reads, unserved}
 use Rattle.surf_run.specs.ServedOrNot.{opening_bound}
 use Rattle.surf_run.specs.Open.{IsFreeText, IsOpeningText, opening_status, opening_text}
-use Rattle.surf_run.proofs.EndCauses.{no_fall_on, no_fall_say}
-use Rattle.surf_run.proofs.Footprint.{within_on, within_say, within_still}
-use Rattle.surf_run.proofs.LastLines.{read_since, said_reads, unserved, unserved_since}
+use Rattle.surf_run.proofs.LastLines.{unserved_since}
 use Rattle.surf_run.proofs.Openings.{damage_told, free_text, is_store, no_store_of, not_six, open_moves, opening_is_text, opening_of, opening_statuses, refused_causes, told_damage, told_no_store}
 use Rattle.table_file.specs.Faults.{filter_fault_of}
 use Rattle.surf_run.proofs.opening.open_or_say.Goals as goal

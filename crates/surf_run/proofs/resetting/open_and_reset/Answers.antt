@@ -1,9 +1,9 @@
 use Rattle.std.proofs.Common.{◌*◌, ◌++◌, ◌∙◌, ap, inl, inr}
 use Rattle.block_model.specs.Pages.{page_bytes}
 use Rattle.disk_trait.specs.World.{Streams}
+use Rattle.lines_in.proofs.EndCauses.{causes_on, lines_on}
 use Rattle.surf_run.specs.Formats.{bad_settings_text}
 use Rattle.surf_run.specs.Kind.{filter_kind}
-use Rattle.surf_run.proofs.EndCauses.{causes_on, lines_on}
 use Rattle.surf_run.proofs.Moments.{image_stands, tied_stands}
 use Rattle.surf_run.proofs.NewNumbersSet.{all_statuses, completed, never_five, no_store_told, opened_now, opening_never_ten, unopened_ends}
 use Rattle.surf_run.proofs.Openings.{opened_ends, opened_within}

@@ -1,10 +1,10 @@
 use Rattle.std.proofs.Common.{◌≡◌, ◌*◌, ◌∙◌, inl, inr, sym}
 use Rattle.std.specs.Prelude.{IsTrue}
 use Rattle.block_model.specs.Pages.{page_bytes}
+use Rattle.lines_in.proofs.EndCauses.{line_say, line_write, lines_on}
+use Rattle.lines_in.proofs.Footprint.{within_on, within_say, within_write}
 use Rattle.surf_run.specs.Kind.{filter_kind}
 use Rattle.surf_run.specs.Resetting.{bad_number}
-use Rattle.surf_run.proofs.EndCauses.{line_say, line_write, lines_on}
-use Rattle.surf_run.proofs.Footprint.{within_on, within_say, within_write}
 use Rattle.surf_run.proofs.LoadEnds.{line_causes}
 use Rattle.surf_run.proofs.NewNumbersSet.{done, of_reset, refused, refused_at_eight, refused_at_ten, refused_causes, refused_statuses}
 use Rattle.surf_run.proofs.resetting.reset_store.Goals as goal

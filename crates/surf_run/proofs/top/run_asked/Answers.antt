@@ -2,9 +2,12 @@ use Rattle.std.proofs.Common.{◌≡◌, ◌⊎◌, ◌+◌, inl, inr, refl, sym
 use Rattle.filter_api.specs.declared.settings.Field.{Field}
 use Rattle.std.specs.Prelude.{None, Some, IsTrue}
 use Rattle.line_model.specs.Replies.{Memory, text_of}
+use Rattle.lines_in.specs.Causes.{EndsAt}
+use Rattle.lines_in.specs.Unserved.{Unserved}
+use Rattle.lines_in.proofs.Footprint.{within_say}
+use Rattle.lines_in.proofs.LastLines.{read_since, said_reads, unserved}
 use Rattle.program_words.specs.declared.load.Load.{Load}
 use Rattle.program_words.specs.declared.new_store.NewStore.{NewStore}
-use Rattle.surf_run.specs.Causes.{EndsAt}
 use Rattle.surf_run.specs.ServedOrNot.{NoLineAnswered, TellsDamage, opening_bound}
 use Rattle.surf_run.specs.Formats.{bad_settings_text}
 use Rattle.surf_run.specs.Kind.{filter_kind}
@@ -12,12 +15,9 @@ use Rattle.surf_run.specs.Loads.{IsLoading, LoadEnds, Loads}
 use Rattle.surf_run.specs.Open.{IsFreeText, IsOpeningText, OpeningEnds}
 use Rattle.surf_run.specs.Resetting.{IsResetEnd, IsResetting, OpenedThenReset, ResetEnds, TellsWhich}
 use Rattle.surf_run.specs.Run.{FormatEnds, IsBadSettingsText, IsHelpText, IsUsageText, usage_text}
-use Rattle.surf_run.specs.Unserved.{Unserved}
 use Rattle.surf_run.specs.declared.new_numbers.NewNumbers.{NewNumbers}
 use Rattle.surf_run.proofs.Asking.{at_bad, at_check, at_format, at_help, at_load, at_refused, at_serve, check_is_asked, grow_opens, grow_opens_so, grow_is_reset, grow_reset, load_is_asked, load_opens, load_opens_so, memory_bad, memory_check, memory_help, memory_load, memory_opens, memory_refused, memory_reset, memory_serve, serve_opens, settings_in_its_range, settings_is_reset, settings_opens, settings_opens_so, settings_reset}
 use Rattle.surf_run.proofs.Checked.{check_as_statuses, checking_never_five, checking_never_ten, checking_never_three, checking_never_two, loading_never_twelve, memory_ends, reset_never_twelve, serving_never_twelve}
-use Rattle.surf_run.proofs.Footprint.{within_say}
-use Rattle.surf_run.proofs.LastLines.{read_since, said_reads, unserved}
 use Rattle.surf_run.proofs.LoadEnds.{as_statuses, never_two}
 use Rattle.surf_run.proofs.NewNumbersSet.{loading_never_ten, never_two as reset_never_two, reset_as_statuses, serving_never_ten}
 use Rattle.surf_run.proofs.top.run_asked.Goals as goal

@@ -15,8 +15,8 @@ loop-at-init g c =
       asleep = refl;
       goes = goes_same g.D.Disk.tells tables c.args.self.now w;
       reads = reads_same g.D.Disk.tells tables c.args.self.now w;
-      ready = λ t at lt. absurd (omega (arith, lt));
-      clear = λ at lt. absurd (omega (arith, lt));
+      caught_up = λ t at lt. absurd (omega (arith, lt));
+      heads_pass = λ at lt. absurd (omega (arith, lt));
     }
 
 pub catch_up_at-requires-clause-known : goal.catch_up_at-requires-clause-known
@@ -44,8 +44,8 @@ returns g c =
       asleep = sofar.asleep;
       goes = sofar.goes;
       reads = sofar.reads;
-      ready = λ t at lt none. sofar.ready t at (omega (arith, lt, many, c.loop-at-test.false, c.count-at-end.ensures.count)) lt none;
-      clear = all_clear g.D.Disk.tells tables c.loop-at.at c.args.self.now c.loop-at.self before after sofar c.count-at-end.ensures.still (omega (arith, many, c.loop-at-test.false, c.count-at-end.ensures.count));
+      caught_up = λ t at lt none. sofar.caught_up t at (omega (arith, lt, many, c.loop-at-test.false, c.count-at-end.ensures.count)) lt none;
+      heads_pass = all_clear g.D.Disk.tells tables c.loop-at.at c.args.self.now c.loop-at.self before after sofar c.count-at-end.ensures.still (omega (arith, many, c.loop-at-test.false, c.count-at-end.ensures.count));
       fails = tt;
     }
 
@@ -68,7 +68,7 @@ returns-in-Err g c =
       asleep = asleep ∙ sofar.asleep;
       goes = goes_caught tells tables first old new c.loop-at.at (Err c.in-Err.why) before mid after sofar.goes asleep awake catches;
       reads = tt;
-      ready = λ t. tt;
-      clear = tt;
+      caught_up = λ t. tt;
+      heads_pass = tt;
       fails = fails_caught tells tables first old new c.loop-at.at c.in-Err.why before mid after sofar.goes sofar.reads asleep awake catches;
     }

@@ -8,7 +8,7 @@ use Rattle.level_merge.specs.declared.taking.Stop.{Stop}
 use Rattle.level_merge.proofs.OutputLists.{full_has}
 use Rattle.level_merge.proofs.SliceMoves.{closed_moves}
 use Rattle.level_merge.proofs.SliceSteps.{all_read, close_refused, ends, last_output, looked_on, makes_one, next_output, no_length, none_of_length, nothing_next, one_more, ready_with_none, some_length, take_refused, waits}
-use Rattle.level_merge.proofs.Slicing.{closed_last, closed_none, closed_then, closed_without_memory, had_nothing, took_no_row, waited}
+use Rattle.level_merge.proofs.SliceProofs.{closed_last, closed_none, closed_then, closed_without_memory, had_nothing, took_no_row, waited}
 use Rattle.disk_trait.specs.Image.{Image}
 use Rattle.merge_rows.specs.Merges.{Merge, rows_left}
 use Rattle.merge_rows.specs.Reads.{AreAtEnd}

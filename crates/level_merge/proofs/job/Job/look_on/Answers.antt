@@ -10,7 +10,7 @@ use Rattle.level_merge.proofs.SliceSteps.{no_length, none_of_length, some_length
 use Rattle.level_merge.proofs.job.Job.look_on.Goals as goal
 use Rattle.level_merge.proofs.job.Job.look_on.Goals.{in-Ok-Blocks, in-Ok-Full, in-Ok-End+else-not-is_empty, in-Err}
 
--- the next row wants a block, the next output is full already, or no row is left
+-- the next row needs a block, the next output is full already, or no row is left
 pub returns-clause-said : goal.returns-clause-said
 returns-clause-said g c =
     let tells = g.D.Disk.tells in

@@ -205,30 +205,30 @@ loop-why-preserved g c =
       first = λ all. absurd (false≢true (sym all ∙ sym from.stay.drops_are ∙ sym kept.drops_are ∙ hidden_drops new.drops new.now some c.if-is_shown.ensures));
     }
 
-pub returns-in-Err-clause-met : goal.returns-in-Err-clause-met
-returns-in-Err-clause-met g c = still_some c.loop-why.self.walks c.args.self.now.walks c.loop-why.invariant.stay.numbers_are c.in-Err.ensures.met
+pub returns-in-Err-clause-only_if_read : goal.returns-in-Err-clause-only_if_read
+returns-in-Err-clause-only_if_read g c = still_some c.loop-why.self.walks c.args.self.now.walks c.loop-why.invariant.stay.numbers_are c.in-Err.ensures.only_if_read
 
-pub returns-in-Err-clause-owed : goal.returns-in-Err-clause-owed
-returns-in-Err-clause-owed g c t all sound =
+pub returns-in-Err-clause-only_if_wanted : goal.returns-in-Err-clause-only_if_wanted
+returns-in-Err-clause-only_if_wanted g c t all sound =
     let tables = c.args.tables.now.tables in
     let old = c.loop-why.self in
     let from = c.loop-why.invariant in
     subst (λ (m : Merge). 1 ≤ wanted m tables) (from.first all).0
-    (subst (λ (h : Image). IsSoundMerge old tables h → 1 ≤ wanted old tables) from.moves.1.held (c.in-Err.ensures.owed t) (from.stay.sound t sound))
+    (subst (λ (h : Image). IsSoundMerge old tables h → 1 ≤ wanted old tables) from.moves.1.held (c.in-Err.ensures.only_if_wanted t) (from.stay.sound t sound))
 
-pub returns-in-Ok-false-clause-paced : goal.returns-in-Ok-false-clause-paced
-returns-in-Ok-false-clause-paced g c t all =
+pub returns-in-Ok-false-clause-caught_up_past : goal.returns-in-Ok-false-clause-caught_up_past
+returns-in-Ok-false-clause-caught_up_past g c t all =
     let tables = c.args.tables.now.tables in
     let from = c.loop-why.invariant in
     subst (λ (m : Merge). IsPaced tables (g.D.Disk.world c.args.disk.now).seen.held m c.step.new.self) (from.first all).0
-    (subst (λ (h : Image). IsPaced tables h c.loop-why.self c.step.new.self) from.moves.1.held (c.in-Ok-false.ensures.paced t))
+    (subst (λ (h : Image). IsPaced tables h c.loop-why.self c.step.new.self) from.moves.1.held (c.in-Ok-false.ensures.caught_up_past t))
 
-pub returns-then-is_shown-clause-paced : goal.returns-then-is_shown-clause-paced
-returns-then-is_shown-clause-paced g c t all =
+pub returns-then-is_shown-clause-caught_up_past : goal.returns-then-is_shown-clause-caught_up_past
+returns-then-is_shown-clause-caught_up_past g c t all =
     let tables = c.args.tables.now.tables in
     let from = c.loop-why.invariant in
     subst (λ (m : Merge). IsPaced tables (g.D.Disk.world c.args.disk.now).seen.held m c.step.new.self) (from.first all).0
-    (subst (λ (h : Image). IsPaced tables h c.loop-why.self c.step.new.self) from.moves.1.held (c.in-Ok-true.ensures.paced t))
+    (subst (λ (h : Image). IsPaced tables h c.loop-why.self c.step.new.self) from.moves.1.held (c.in-Ok-true.ensures.caught_up_past t))
 
 -- ---- no more blocks were read than fewer are left
 

@@ -24,7 +24,7 @@ returns-in_default c =
     subst (λ (m : Merge). AdvancesBefore c.args.bound.now m new false) c.self.view_is (record {
       drops = refl;
       walks = refl;
-      memory = record { same = c.catch_up.ensures.same; rises = c.catch_up.ensures.rises; ready = c.catch_up.ensures.ready };
+      memory = record { same = c.catch_up.ensures.same; rises = c.catch_up.ensures.rises; caught_up = c.catch_up.ensures.caught_up };
       chosen = (refl, refl, none_from c.args.bound.now (heads_of c.catch_up.new.self c.self.inside.walks.items) none);
     })
 
@@ -43,6 +43,6 @@ returns-then-not-is_lt c =
     subst (λ (m : Merge). AdvancesBefore c.args.bound.now m new false) c.self.view_is (record {
       drops = refl;
       walks = refl;
-      memory = record { same = c.catch_up.ensures.same; rises = c.catch_up.ensures.rises; ready = c.catch_up.ensures.ready };
+      memory = record { same = c.catch_up.ensures.same; rises = c.catch_up.ensures.rises; caught_up = c.catch_up.ensures.caught_up };
       chosen = (refl, refl, least_from_low c.args.bound.now (heads_of memory c.self.inside.walks.items) (place_in source) e not_so at);
     })

@@ -11,8 +11,8 @@ returns-clause-row c tells tables image caught =
     let new = c.choose.new.self in
     let memory = c.pass_memory.ensures in
     let chosen = c.choose.ensures in (
-      filled_sources old mid new memory.floor memory.drops memory.walks memory.same memory.rises memory.ready c.requires.clear chosen.memory chosen.walks chosen.drops chosen.chosen tells tables image caught,
-      filled_row old mid new memory.floor memory.drops memory.walks memory.same memory.rises memory.ready c.requires.clear chosen.memory chosen.walks chosen.drops chosen.chosen tells tables image caught c.requires.whole,
+      filled_sources old mid new memory.floor memory.drops memory.walks memory.same memory.rises memory.caught_up c.requires.heads_pass chosen.memory chosen.walks chosen.drops chosen.chosen tells tables image caught,
+      filled_row old mid new memory.floor memory.drops memory.walks memory.same memory.rises memory.caught_up c.requires.heads_pass chosen.memory chosen.walks chosen.drops chosen.chosen tells tables image caught c.requires.whole,
     )
 
 pub returns-clause-ended : goal.returns-clause-ended

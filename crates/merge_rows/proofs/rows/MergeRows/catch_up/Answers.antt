@@ -92,11 +92,11 @@ pub returns-in-Err-clause-moves : goal.returns-in-Err-clause-moves
 returns-in-Err-clause-moves g c =
     only_then 2 (g.D.Disk.world c.args.disk.now) (g.D.Disk.world c.loop-why.disk) (g.D.Disk.world c.fill.new.disk) c.loop-why.invariant.moves c.fill.ensures.moves
 
-pub returns-in-Err-clause-met : goal.returns-in-Err-clause-met
-returns-in-Err-clause-met g c = still_some c.loop-why.self.walks c.args.self.now.walks c.loop-why.invariant.stays.sources.numbers_are c.in-Err.ensures.met
+pub returns-in-Err-clause-only_if_read : goal.returns-in-Err-clause-only_if_read
+returns-in-Err-clause-only_if_read g c = still_some c.loop-why.self.walks c.args.self.now.walks c.loop-why.invariant.stays.sources.numbers_are c.in-Err.ensures.only_if_read
 
-pub returns-in-Err-clause-owed : goal.returns-in-Err-clause-owed
-returns-in-Err-clause-owed g c t s =
+pub returns-in-Err-clause-only_if_wanted : goal.returns-in-Err-clause-only_if_wanted
+returns-in-Err-clause-only_if_wanted g c t s =
     let tables = c.args.tables.now.tables in
     let old = c.loop-why.self in
     let new = c.fill.new.self in

@@ -6,7 +6,7 @@ use Rattle.merge_rows.specs.Steps.{IsCaughtUp, IsSoundMerge, StaysAt}
 use Rattle.table_file.specs.Walks.{first_of}
 use Rattle.merge_rows.proofs.rows.MergeRows.catch_up.Given as goal
 
--- the memory has caught up, and as many blocks were read as are wanted no more
+-- the memory has caught up, and as many blocks were read as are needed no more
 abbrev pub invariant-loop-why : goal.invariant-loop-why
 invariant-loop-why g l =
     let tells = IsTrue g.D.Disk.tells in

@@ -22,14 +22,14 @@ returns-clause-kept g c =
     let stays = c.catch_up.ensures.stays in
     let floor_is : old.floor ≡ mid.floor = sym stays.floor_is in
     let caught : IsCaughtUp mid.floor (first_of mid.memory) mid.memory = subst (λ (f : KeyFloor). IsCaughtUp f (first_of mid.memory) mid.memory) floor_is c.catch_up.ensures.memory in
-    let clear : AreHeadsClear mid.floor mid.walks = subst (λ (f : KeyFloor). AreHeadsClear f mid.walks) floor_is c.in_ok-catch_up.ensures.clear in
+    let clear : AreHeadsClear mid.floor mid.walks = subst (λ (f : KeyFloor). AreHeadsClear f mid.walks) floor_is c.in_ok-catch_up.ensures.heads_pass in
     let passes : RowPasses new.now mid.floor new.floor = chosen_passes mid.floor new.floor mid.memory mid.walks new.now c.choose.ensures.chosen caught clear in
     record {
       numbers_are = ap numbers c.choose.ensures.walks ∙ stays.sources.numbers_are;
       stands_are = ap stands c.choose.ensures.walks ∙ stays.sources.stands_are;
       drops_are = c.choose.ensures.drops ∙ stays.sources.drops_are;
       sound = λ t s. step_sound tables image mid new c.choose.ensures.memory c.choose.ensures.walks c.choose.ensures.chosen
-          (subst (λ (f : KeyFloor). AreCaughtUp f tables image mid.walks) floor_is (c.in_ok-catch_up.ensures.ready t)) passes (stays.sources.sound t s);
+          (subst (λ (f : KeyFloor). AreCaughtUp f tables image mid.walks) floor_is (c.in_ok-catch_up.ensures.caught_up t)) passes (stays.sources.sound t s);
     }
 
 pub returns-clause-rows : goal.returns-clause-rows
@@ -42,11 +42,11 @@ returns-clause-rows g c t s =
     let stays = c.catch_up.ensures.stays in
     let floor_is : old.floor ≡ mid.floor = sym stays.floor_is in
     let caught : IsCaughtUp mid.floor (first_of mid.memory) mid.memory = subst (λ (f : KeyFloor). IsCaughtUp f (first_of mid.memory) mid.memory) floor_is c.catch_up.ensures.memory in
-    let clear : AreHeadsClear mid.floor mid.walks = subst (λ (f : KeyFloor). AreHeadsClear f mid.walks) floor_is c.in_ok-catch_up.ensures.clear in
+    let clear : AreHeadsClear mid.floor mid.walks = subst (λ (f : KeyFloor). AreHeadsClear f mid.walks) floor_is c.in_ok-catch_up.ensures.heads_pass in
     let passes : RowPasses new.now mid.floor new.floor = chosen_passes mid.floor new.floor mid.memory mid.walks new.now c.choose.ensures.chosen caught clear in
     subst (λ (l : List Entry). HandsOutRow new.now l (merged_left new tables image)) (stays.left t)
     (step_rows tables image mid new c.choose.ensures.memory c.choose.ensures.walks c.choose.ensures.chosen
-    (subst (λ (f : KeyFloor). AreCaughtUp f tables image mid.walks) floor_is (c.in_ok-catch_up.ensures.ready t)) passes (stays.sources.sound t s))
+    (subst (λ (f : KeyFloor). AreCaughtUp f tables image mid.walks) floor_is (c.in_ok-catch_up.ensures.caught_up t)) passes (stays.sources.sound t s))
 
 pub returns-clause-passes : goal.returns-clause-passes
 returns-clause-passes g c =
@@ -58,12 +58,12 @@ returns-clause-passes g c =
     let stays = c.catch_up.ensures.stays in
     let floor_is : old.floor ≡ mid.floor = sym stays.floor_is in
     let caught : IsCaughtUp mid.floor (first_of mid.memory) mid.memory = subst (λ (f : KeyFloor). IsCaughtUp f (first_of mid.memory) mid.memory) floor_is c.catch_up.ensures.memory in
-    let clear : AreHeadsClear mid.floor mid.walks = subst (λ (f : KeyFloor). AreHeadsClear f mid.walks) floor_is c.in_ok-catch_up.ensures.clear in
+    let clear : AreHeadsClear mid.floor mid.walks = subst (λ (f : KeyFloor). AreHeadsClear f mid.walks) floor_is c.in_ok-catch_up.ensures.heads_pass in
     let passes : RowPasses new.now mid.floor new.floor = chosen_passes mid.floor new.floor mid.memory mid.walks new.now c.choose.ensures.chosen caught clear in
     subst (λ (f : KeyFloor). RowPasses new.now f new.floor) stays.floor_is passes
 
-pub returns-clause-paced : goal.returns-clause-paced
-returns-clause-paced g c t =
+pub returns-clause-caught_up_past : goal.returns-clause-caught_up_past
+returns-clause-caught_up_past g c t =
     let tables = c.args.tables.now.tables in
     let image = (g.D.Disk.world c.args.disk.now).seen.held in
     let floor = c.args.self.now.floor in
@@ -72,7 +72,7 @@ returns-clause-paced g c t =
     let walks_are : mid.walks ≡ new.walks = sym c.choose.ensures.walks in
     record {
       same = ap (map (left_above floor tables image)) c.choose.ensures.walks ∙ c.catch_up.ensures.stays.each t;
-      ready = subst (AreCaughtUp floor tables image) walks_are (c.in_ok-catch_up.ensures.ready t);
+      caught_up = subst (AreCaughtUp floor tables image) walks_are (c.in_ok-catch_up.ensures.caught_up t);
       least = subst (λ (walks : List TableWalk). IfSome new.now (λ row. AllByRecursion (λ (w : TableWalk). IsHeadFrom row.key w.walk.now) walks)) walks_are
           (chosen_least mid.floor new.floor mid.memory mid.walks new.now c.choose.ensures.chosen);
     }

@@ -5,7 +5,7 @@ use Rattle.merge_rows.specs.Reads.{OnlyReads, PassesSound, blocks_left_in, wante
 use Rattle.merge_rows.specs.Steps.{IsSoundWalk}
 use Rattle.merge_rows.proofs.table_source.TableSource.catch_up.Given as goal
 
--- above the floor the same is left, and as many blocks were read as are wanted no more
+-- above the floor the same is left, and as many blocks were read as are needed no more
 abbrev pub invariant-loop-self : goal.invariant-loop-self
 invariant-loop-self g l =
     let tells = IsTrue g.D.Disk.tells in

@@ -41,15 +41,15 @@ returns-clause-asked g c =
     wants_of c.args.floor.now tables table c.pass_over.new.self (ap (numbered tables) c.pass_over.ensures.number ∙ there)
     ∙ ap ones (sym c.pass_over.ensures.wanted)
 
-pub returns-clause-ready : goal.returns-clause-ready
-returns-clause-ready g c t none =
+pub returns-clause-caught_up : goal.returns-clause-caught_up
+returns-clause-caught_up g c t none =
     let tables = c.args.tables.now.tables in
     let held = (g.D.Disk.world c.args.disk.now).seen.held in
     let table = c.table_of-table.result.now in
     let new = c.pass_over.new.self in
     let there : numbered tables c.args.self.now.number ≡ Some table = subst (λ (n : ℕ). numbered tables n ≡ Some table) (ap (λ (s : TableWalk). s.number) c.self.view_is) c.table_of-table.ensures in
     subst (λ (o : Option Opened). IsCaughtUp c.args.floor.now new.walk.now (with_hand new.walk.now (to_come new.walk (blocks_in o held))))
-    (sym (ap (numbered tables) c.pass_over.ensures.number ∙ there)) (c.pass_over.ensures.ready t none)
+    (sym (ap (numbered tables) c.pass_over.ensures.number ∙ there)) (c.pass_over.ensures.caught_up t none)
 
 pub returns-clause-read_all : goal.returns-clause-read_all
 returns-clause-read_all g c none ends =

@@ -55,8 +55,8 @@ returns-in-Ok-false-clause-same g c t =
     passed_all floor mid new blocks used none (walk_ended c.args.table.now held new (c.in-Ok-false.ensures.ends c.in-Ok-false.field-0-test)) out
     ∙ subst (λ (w : CursorWalk). above_floor floor (with_hand w.now (to_come w blocks)) ≡ above_floor floor (with_hand old.now (to_come old blocks))) walk_is (from.same t)
 
-pub returns-in-Ok-false-clause-ready : goal.returns-in-Ok-false-clause-ready
-returns-in-Ok-false-clause-ready g c t wants =
+pub returns-in-Ok-false-clause-caught_up : goal.returns-in-Ok-false-clause-caught_up
+returns-in-Ok-false-clause-caught_up g c t wants =
     let held = (g.D.Disk.world c.args.disk.now).seen.held in
     let new = c.advance.new.self in
     caught_none c.args.floor.now new.now (to_come new (blocks_on c.args.table.now held)) (none_of new.now (sym c.in-Ok-false.ensures.said ∙ c.in-Ok-false.field-0-test))

@@ -1,4 +1,4 @@
-use Rattle.std.proofs.Common.{◌≡◌, ◌≤◌, ◌+◌, ◌*◌, ◌++◌, ◌∷◌, [], ◌∙◌, refl, sym, ap, subst, arith, true}
+use Rattle.std.proofs.Common.{◌≡◌, ◌≤◌, ◌+◌, ◌*◌, ◌++◌, ◌∷◌, [], ◌∙◌, refl, sym, ap, subst, arith, true, List}
 use Rattle.std.specs.Prelude.{Option}
 use Rattle.disk_trait.specs.World.{WriteMoves}
 use Rattle.entry_model.specs.Entries.{Entry, IsLogged, entry_of, need}
@@ -9,6 +9,9 @@ use Rattle.table_model.specs.Tables.{filter_bytes_of}
 use Rattle.store_core.specs.StoreValue.{StoreValue}
 use Rattle.store_core.specs.Represents.{Represents}
 use Rattle.store_core.proofs.Ties.{append_done, append_fails, append_moves, filled_logged}
+use Rattle.store_core.proofs.Recorded.{entries_in}
+use Rattle.entry_model.proofs.Newest.{newest_more}
+use Rattle.entry_model.specs.Newest.{with_entry}
 use Rattle.store_core.proofs.store.Store.append.Goals as goal
 use Rattle.store_core.proofs.store.Store.append.Goals.{in-Some-1, in-None-1}
 
@@ -52,7 +55,9 @@ returns-in-Ok-clause-turns g c s tells is =
     let tied = subst (λ (k : StoreValue). Represents spelling bytes k s (g.D.Disk.world c.args.disk.now)) (sym c.self.view_is) is in
     let fits = subst (λ (k : StoreValue). k.log.filled + need e ≤ 262144) (sym c.self.view_is) c.requires.fits in
     append_done c.jobs_are_followed.ensures.image spelling bytes _ s e _ _ _ (same_entry e _ _ c.key.ensures c.value.ensures) tied c.self.invariant.0 fits c.append.ensures.moves _ _ _
-    (c.in-Ok.ensures.crash s.log tells tied.log) refl refl refl refl c.in-Ok.ensures.filled (c.set.ensures.newest s.log tied.memory) c.requires.sound
+    (c.in-Ok.ensures.crash (entries_in s) tells tied.log) refl refl refl refl c.in-Ok.ensures.filled
+    (c.set.ensures.newest c.self.invariant.0.entries.entries c.self.invariant.0.entries.memory_is ∙ newest_more c.self.invariant.0.entries.entries e
+    ∙ ap (λ (es : List Entry). with_entry es e) (sym c.self.invariant.0.entries.memory_is ∙ tied.memory)) c.requires.sound
 
 pub returns-in-Ok-clause-moves : goal.returns-in-Ok-clause-moves
 returns-in-Ok-clause-moves g c =
@@ -71,7 +76,7 @@ returns-in-Err-clause-turns g c s tells is =
     let fits = subst (λ (k : StoreValue). k.log.filled + need e ≤ 262144) (sym c.self.view_is) c.requires.fits in
     let stopped : c.match-entry.self.stopped ≡ true = elim c.match-entry.branch [ in-Some-1 w ↦ ap (λ (k : StoreValue). k.stopped) w.self-is | in-None-1 w ↦ ap (λ (k : StoreValue). k.stopped) w.self-is ] in
     append_fails c.jobs_are_followed.ensures.image spelling bytes _ s e _ _ _ (same_entry e _ _ c.key.ensures c.value.ensures) tied c.self.invariant.0 fits c.append.ensures.moves _ _ _
-    (c.in-Err.ensures.crash s.log tells tied.log) stopped
+    (c.in-Err.ensures.crash (entries_in s) tells tied.log) stopped
 
 pub returns-in-Err-clause-moves : goal.returns-in-Err-clause-moves
 returns-in-Err-clause-moves g c =

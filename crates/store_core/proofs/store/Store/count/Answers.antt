@@ -21,6 +21,7 @@ use Rattle.store_core.proofs.Ties.{tied_read}
 use Rattle.store_core.specs.Scans.{IsScanShown, StillComes, left_behind, opened_tables, walks_between}
 use Rattle.table_file.specs.Opened.{Opened}
 use Rattle.table_model.specs.Tables.{filter_bytes_of}
+use Rattle.store_core.proofs.Recorded.{shown_only}
 use Rattle.store_core.proofs.store.Store.count.Goals as goal
 
 -- ---- no scan
@@ -203,7 +204,9 @@ returns-clause-answer g c s so tied =
     let here = subst (λ (f : Image). StillComes spelling c.loop-scan.scan (drop c.loop-scan.count m) f) (sym c.loop-scan.invariant.moves.1.held) (c.loop-scan.invariant.shows m so first) in
     let on = c.in_ok-advance.ensures.pairs (drop c.loop-scan.count m) so here in
     let none = sym on.0 ∙ none_pair c.advance.new.self.now (sym c.in_ok-advance.ensures.said ∙ c.if-branch.false) in
-    counted_all bytes s c.args.low.now (Some c.args.high.now) c.loop-scan.count tied.sound (c.loop-scan.invariant.within m so first) (none_behind c.loop-scan.count m none)
+    counted_all bytes s c.args.low.now (Some c.args.high.now) c.loop-scan.count tied.sound
+    (shown_only spelling c.args.self.now.manifest c.args.self.now.tables c.args.self.now.job s before.seen.held (tied.images before.seen.held (g.met.D.Disk.current c.args.disk.now so)))
+    (c.loop-scan.invariant.within m so first) (none_behind c.loop-scan.count m none)
 
 pub returns-clause-tied : goal.returns-clause-tied
 returns-clause-tied g c s tied =

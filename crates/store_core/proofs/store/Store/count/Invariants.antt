@@ -5,7 +5,7 @@ use Rattle.merge_rows.specs.Reads.{OnlyReads, PassSound}
 use Rattle.store_core.specs.Scans.{GoesOn, StillComes, blocks_to_come, opened_tables}
 use Rattle.store_core.proofs.store.Store.count.Given as goal
 
--- so many of the pairs were given, and the others are still to come
+-- a given number of the pairs were given, and the others are still to come
 abbrev pub invariant-loop-scan : goal.invariant-loop-scan
 invariant-loop-scan g l =
     let before = g.D.Disk.world l.fn.disk in

@@ -16,6 +16,7 @@ use Rattle.store_core.proofs.FlushAnswers.{passed_on, stands_now}
 use Rattle.store_core.proofs.Limiting.{limit_answers, of_key}
 use Rattle.store_core.proofs.Refusals.{limit_due}
 use Rattle.store_core.proofs.Stays.{stays_at}
+use Rattle.range_model.specs.Sources.{Sets}
 use Rattle.store_core.proofs.store.Store.delete.Goals as goal
 
 pub returns-in_err-check_key-clause-answered : goal.returns-in_err-check_key-clause-answered
@@ -34,7 +35,7 @@ returns-clause-answered g c s tells runs tied =
     let spelling = g.F.RangeFilter.spelling in
     let bytes = filter_bytes_of g.F.RangeFilter.spelling g.F.RangeFilter.built_cutoff in
     let old = g.D.Disk.world c.args.disk.now in
-    let change = written bytes s (del_entry c.args.key.now) in
+    let change = written bytes s (Sets (del_entry c.args.key.now)) in
     wrote_answers spelling bytes s (Del c.args.key.now) old (g.D.Disk.world c.write.new.disk) change c.write.result c.write.new.self c.in_ok-check_key.ensures refl refl (λ _. tt)
     (λ _ to made. is_made change to made) (is_left spelling bytes c.args.self.now s old tied) c.write.ensures.stopped c.write.ensures.refused (c.write.ensures.wrote s tells tied)
 

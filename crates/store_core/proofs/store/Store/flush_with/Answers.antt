@@ -24,6 +24,7 @@ use Rattle.store_core.proofs.Plans.{row_free}
 use Rattle.store_core.proofs.Refusals.{fault_due, plan_due, wanted_due}
 use Rattle.store_core.proofs.Stays.{stays_at, stopped_or_stays, tables_stay}
 use Rattle.store_core.proofs.Wholes.{flushed_whole, laid_with, whole_stopped}
+use Rattle.store_core.proofs.Recorded.{no_range_with, shown_only}
 use Rattle.store_core.proofs.store.Store.flush_with.Goals as goal
 
 pub plan_flush-requires-clause-rises : goal.plan_flush-requires-clause-rises
@@ -61,7 +62,7 @@ returns-in_err-plan-clause-wrote g c s tells tied =
     subst (λ (r : Result (Unit {0}) StoreError). WroteEntry spelling bytes s (flushed bytes (state_with s over)) r store w w) (passed_on c.from_residual.result x c.from_residual.ensures.1)
     (wrote_over spelling bytes s over (Err x) store w w
     (plan_refused spelling bytes store s w (g.met.D.Disk.current c.args.disk.now tells) tied (state_with s over).log (entries_with store.memory.entries over) (flushed_entries_are s over store.memory.entries tied.memory)
-    c.requires.some (subst IsConsistent c.self.view_is c.self.invariant.0) x why))
+    (no_range_with s over (shown_only spelling store.manifest store.tables store.job s w.seen.held (tied.images w.seen.held (g.met.D.Disk.current c.args.disk.now tells)))) c.requires.some (subst IsConsistent c.self.view_is c.self.invariant.0) x why))
 
 pub returns-in_err-reserve-clause-wrote : goal.returns-in_err-reserve-clause-wrote
 returns-in_err-reserve-clause-wrote g c s tells tied =
@@ -116,12 +117,13 @@ returns-in-Ok-clause-wrote g c s tells tied =
     let records = (state_with s over).log in
     let entries = entries_with store.memory.entries over in
     let are = flushed_entries_are s over store.memory.entries tied.memory in
+    let no_range = no_range_with s over (shown_only spelling store.manifest store.tables store.job s old.seen.held (tied.images old.seen.held current)) in
     let whole = subst IsConsistent c.self.view_is c.self.invariant.0 in
     let here = subst (λ (rs : List Row). IsPlan spelling cutoff c.self.inside.version rs (entries_with c.self.inside.memory.entries (over_of c.args.over)) parts row next) c.outputs_of-outputs.ensures c.in_ok-plan.ensures.plan in
     let plan = subst (λ (k : StoreValue). IsPlan spelling cutoff k.manifest (outputs_in k.job) (entries_with k.memory.entries (over_of c.args.over)) parts row next) c.self.view_is here in
-    let replaces = c.in-Ok.ensures.replaces store s (record s { log = records }) tells whole tied refl (plan_of_records spelling cutoff store s old new current tied records entries are c.requires.some parts row next plan) in
+    let replaces = c.in-Ok.ensures.replaces store s (record s { log = records }) tells whole tied (refl, no_range) (plan_of_records spelling cutoff store s old new current tied records entries are no_range c.requires.some parts row next plan) in
     wrote_over spelling (filter_bytes_of spelling cutoff) s over _ _ old new
-    (flush_done spelling cutoff store s old new current tied records entries are c.requires.some parts row next plan c.in-Ok.log _ _
+    (flush_done spelling cutoff store s old new current tied records entries are no_range c.requires.some parts row next plan c.in-Ok.log _ _
     (subst IsTable are (flushed_table store whole over (over_is_entry c.args.over c.requires.sound) c.requires.some)) replaces c.installed.ensures
     (c.insert.ensures.tables ∙ ap (λ (t : Opened). t ∷ c.reserve.new.self.tables) c.into_table.ensures.table
     ∙ ap (λ (ts : List Opened). opened_of cutoff parts row ∷ ts) (c.reserve.ensures.tables ∙ ap (λ (k : StoreValue). k.tables) c.self.view_is))
@@ -142,12 +144,13 @@ returns-in-Err-clause-wrote g c s tells tied =
     let records = (state_with s over).log in
     let entries = entries_with store.memory.entries over in
     let are = flushed_entries_are s over store.memory.entries tied.memory in
+    let no_range = no_range_with s over (shown_only spelling store.manifest store.tables store.job s old.seen.held (tied.images old.seen.held current)) in
     let whole = subst IsConsistent c.self.view_is c.self.invariant.0 in
     let here = subst (λ (rs : List Row). IsPlan spelling cutoff c.self.inside.version rs (entries_with c.self.inside.memory.entries (over_of c.args.over)) parts row next) c.outputs_of-outputs.ensures c.in_ok-plan.ensures.plan in
     let plan = subst (λ (k : StoreValue). IsPlan spelling cutoff k.manifest (outputs_in k.job) (entries_with k.memory.entries (over_of c.args.over)) parts row next) c.self.view_is here in
-    let replaces = c.in-Err.ensures.replaces store s (record s { log = records }) tells whole tied refl (plan_of_records spelling cutoff store s old new current tied records entries are c.requires.some parts row next plan) in
+    let replaces = c.in-Err.ensures.replaces store s (record s { log = records }) tells whole tied (refl, no_range) (plan_of_records spelling cutoff store s old new current tied records entries are no_range c.requires.some parts row next plan) in
     wrote_over spelling (filter_bytes_of spelling cutoff) s over _ _ old new
-    (flush_failed spelling cutoff store s old new current tied records entries are c.requires.some parts row next plan _ (ap (λ (k : StoreValue). k.manifest) c.self.view_is) (c.reserve.ensures.tables ∙ ap (λ (k : StoreValue). k.tables) c.self.view_is)
+    (flush_failed spelling cutoff store s old new current tied records entries are no_range c.requires.some parts row next plan _ (ap (λ (k : StoreValue). k.manifest) c.self.view_is) (c.reserve.ensures.tables ∙ ap (λ (k : StoreValue). k.tables) c.self.view_is)
     (ap (λ (k : StoreValue). k.job) c.self.view_is) (ap (λ (k : StoreValue). k.log) c.self.view_is) (ap (λ (k : StoreValue). k.memory) c.self.view_is) (ap (λ (k : StoreValue). k.blocks) c.self.view_is)
     c.in-Err.fault c.from-why.result c.from-why.ensures replaces c.in-Err.ensures.cause c.stops_store-self-inside.ensures)
 
@@ -164,7 +167,7 @@ pub returns-in-Err-clause-stays : goal.returns-in-Err-clause-stays
 returns-in-Err-clause-stays g c runs =
     stopped_or_stays c.from-why.result _ c.args.self.now _ c.reserve.new.self.tables c.self.view_is c.requires.running c.reserve.ensures.tables c.stops_store-self-inside.ensures runs
 
--- ---- when a limit or want of room refuses it
+-- ---- when a limit or lack of room refuses it
 
 pub returns-in_err-plan-clause-due : goal.returns-in_err-plan-clause-due
 returns-in_err-plan-clause-due g c =

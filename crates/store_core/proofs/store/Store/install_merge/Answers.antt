@@ -22,7 +22,7 @@ use Rattle.store_core.specs.Flushing.{installed_manifest}
 use Rattle.store_core.specs.Framing.{IsInUse}
 use Rattle.store_core.proofs.Framing.{leaves_none, leaves_write, slot_outside}
 use Rattle.store_core.specs.StoreValue.{IsConsistent, StoreValue, rows_of}
-use Rattle.store_core.specs.Replacing.{merged_manifest, tables_behind}
+use Rattle.store_core.specs.Install.{merged_manifest, tables_behind}
 use Rattle.store_core.specs.Running.{IsRun, MayRunIn}
 use Rattle.store_core.proofs.Agreed.{tied_agree}
 use Rattle.store_search.proofs.Caches.{numbered_anew}

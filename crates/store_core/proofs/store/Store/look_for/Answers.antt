@@ -11,6 +11,7 @@ use Rattle.store_core.proofs.Lookeds.{memory_looked, place_looked, tables_looked
 use Rattle.store_core.proofs.ScanCauses.{some_mapped}
 use Rattle.store_core.proofs.Asked.{asked_still, found_view, gets_found, gets_refused, held_of, no_memory, tied_asked, true_of, unsaid, whole_asked}
 use Rattle.store_core.proofs.store.Store.look_for.Goals as goal
+use Rattle.store_core.proofs.Recorded.{shown_only}
 
 pub invariant_of-self : goal.invariant_of-self
 invariant_of-self g c =
@@ -130,7 +131,7 @@ returns-clause-answer g c s tells tied =
     let none = no_memory _ c.get.result c.is_some.result c.self.inside.memory.entries s key c.get.ensures c.is_some.ensures c.if-is_some.false (ap (λ (k : StoreValue). k.memory.entries) c.self.view_is ∙ tied.memory) in
     found_view c.place_of.result _ s key c.in_ok-found.found c.look_and_keep.new.buffer.items c.look_and_keep.new.blocks.kept c.place_of.ensures.said
     refl refl none
-    (c.in_ok-found.ensures.answer s.tables tells held are)
+    (c.in_ok-found.ensures.answer s.tables tells held are) (shown_only spelling c.args.self.now.manifest c.args.self.now.tables c.args.self.now.job s w.seen.held (tied.images w.seen.held (current tells)))
 
 -- ---- no block is read
 

@@ -22,6 +22,7 @@ use Rattle.store_core.proofs.RecordsLeft.{flush_left, flush_own_left}
 use Rattle.store_core.proofs.Refusals.{limit_due, long_allowed, long_due}
 use Rattle.store_core.proofs.Stays.{stays_at}
 use Rattle.store_core.proofs.Ties.{long_of, not_long, written_long}
+use Rattle.range_model.specs.Sources.{Sets}
 use Rattle.store_core.proofs.store.Store.put.Goals as goal
 
 pub returns-in_err-check_key-clause-answered : goal.returns-in_err-check_key-clause-answered
@@ -53,7 +54,7 @@ returns-clause-answered g c s tells runs tied =
     let spelling = g.F.RangeFilter.spelling in
     let bytes = filter_bytes_of g.F.RangeFilter.spelling g.F.RangeFilter.built_cutoff in
     let old = g.D.Disk.world c.args.disk.now in
-    let change = written bytes s (put_entry c.args.key.now c.args.value.now) in
+    let change = written bytes s (Sets (put_entry c.args.key.now c.args.value.now)) in
     wrote_answers spelling bytes s (Put c.args.key.now c.args.value.now) old (g.D.Disk.world c.write.new.disk) change c.write.result c.write.new.self
     (none_broken (key_limit c.args.key.now) (value_limit c.args.value.now) c.in_ok-check_key.ensures c.in_ok-check_value.ensures) refl refl (λ _. tt) (λ _ to made. is_made change to made)
     (is_left spelling bytes c.args.self.now s old tied) c.write.ensures.stopped c.write.ensures.refused (c.write.ensures.wrote s tells tied)
@@ -69,7 +70,7 @@ returns-then-value-gt-MAX_LOGGED_VALUE_BYTES-clause-answered g c s tells runs ti
     let old = g.D.Disk.world c.args.disk.now in
     let new = g.D.Disk.world c.flush_with.new.disk in
     let e = put_entry c.args.key.now c.args.value.now in
-    let change = written bytes s e in
+    let change = written bytes s (Sets e) in
     let long : is_long e ≡ true = long_of (length c.args.value.now) (omega arith) in
     wrote_answers spelling bytes s (Put c.args.key.now c.args.value.now) old new change c.flush_with.result c.flush_with.new.self
     (none_broken (key_limit c.args.key.now) (value_limit c.args.value.now) c.in_ok-check_key.ensures c.in_ok-check_value.ensures) refl refl (λ _. tt) (λ _ to made. is_made change to made)

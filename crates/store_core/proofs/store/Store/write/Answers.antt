@@ -22,6 +22,8 @@ use Rattle.store_core.proofs.Refusals.{failure_due, fits_allowed, flush_allowed,
 use Rattle.store_core.proofs.Stays.{flush_stays, room_taken, stopped_stays}
 use Rattle.store_core.proofs.Ties.{short_of_logged}
 use Rattle.store_core.proofs.Writing.{flush_failed, flush_then, need_fits, need_over, never, tied_with, wrote_as, wrote_logged}
+use Rattle.range_model.specs.Sources.{Sets}
+use Rattle.store_core.proofs.Recorded.{entries_in}
 use Rattle.store_core.proofs.store.Store.write.Goals as goal
 
 pub returns-in_err-entry-clause-wrote : goal.returns-in_err-entry-clause-wrote
@@ -29,7 +31,7 @@ returns-in_err-entry-clause-wrote g c s tells tied =
     let spelling = g.F.RangeFilter.spelling in
     let bytes = filter_bytes_of g.F.RangeFilter.spelling g.F.RangeFilter.built_cutoff in
     let w = g.D.Disk.world c.args.disk.now in
-    wanted_room spelling bytes _ s (written bytes s (entry_of c.args.key.now (value_of c.args.value))) c.from_residual.result c.reserve_for.new.self w c.from_residual.ensures.1 c.reserve_for.ensures.kept c.self.invariant.0
+    wanted_room spelling bytes _ s (written bytes s (Sets (entry_of c.args.key.now (value_of c.args.value)))) c.from_residual.result c.reserve_for.new.self w c.from_residual.ensures.1 c.reserve_for.ensures.kept c.self.invariant.0
     (subst (λ (k : StoreValue). Represents spelling bytes k s w) (sym c.self.view_is) tied)
 
 -- a test that fails
@@ -50,7 +52,7 @@ returns-then-fits-clause-wrote g c s tells tied =
     let inside = subst (λ (k : StoreValue). Represents spelling bytes k s old) (sym c.self.view_is) tied in
     let within = subst (λ (n : ℕ). c.self.inside.log.filled + n ≤ 262144) (c.record_need.ensures ∙ sym (ap need same)) (c.fits.ensures.0 c.if-fits.true) in
     wrote_as spelling bytes s e (entry_of c.args.key.now (value_of c.args.value)) c.append.result c.append.new.self old new same
-    (wrote_logged spelling bytes s e c.append.result c.append.new.self old new (short_of_logged e (subst IsLogged (sym same) c.requires.sound)) (need_fits c.self.inside.log.filled (need e) s.log inside.log within) c.append.ensures.failure
+    (wrote_logged spelling bytes s e c.append.result c.append.new.self old new (short_of_logged e (subst IsLogged (sym same) c.requires.sound)) (need_fits c.self.inside.log.filled (need e) (entries_in s) inside.log within) c.append.ensures.failure
     (c.append.ensures.turns s tells (tied_with spelling bytes _ s old c.reserve_for.new.self c.reserve_for.ensures.kept inside)))
 
 pub returns-in_err-flush_memory-clause-wrote : goal.returns-in_err-flush_memory-clause-wrote
@@ -62,9 +64,9 @@ returns-in_err-flush_memory-clause-wrote g c s tells tied =
     let x = entry_of c.args.key.now (value_of c.args.value) in
     let inside = subst (λ (k : StoreValue). Represents spelling bytes k s old) (sym c.self.view_is) tied in
     let wide = subst (λ (n : ℕ). 262144 < c.self.inside.log.filled + n) c.record_need.ensures (not_within (c.self.inside.log.filled + c.record_need.result) c.fits.result c.fits.ensures.1 c.if-fits.false) in
-    subst (λ (r : Result (Unit {0}) StoreError). WroteEntry spelling bytes s (written bytes s x) r c.flush_memory.new.self old new)
+    subst (λ (r : Result (Unit {0}) StoreError). WroteEntry spelling bytes s (written bytes s (Sets x)) r c.flush_memory.new.self old new)
     (passed_on c.from_residual-in_err-flush_memory.result c.in_err-flush_memory.field-0.0 c.from_residual-in_err-flush_memory.ensures.1)
-    (flush_failed spelling bytes s x (short_of_logged x c.requires.sound) (need_over c.self.inside.log.filled (need x) s.log inside.log inside.sound.log_fits wide) c.in_err-flush_memory.field-0.0 c.flush_memory.new.self old new
+    (flush_failed spelling bytes s x (short_of_logged x c.requires.sound) (need_over c.self.inside.log.filled (need x) (entries_in s) inside.log inside.sound.log_fits wide) c.in_err-flush_memory.field-0.0 c.flush_memory.new.self old new
     (c.in_err-flush_memory.ensures.wrote s tells (tied_with spelling bytes _ s old c.reserve_for.new.self c.reserve_for.ensures.kept inside)))
 
 pub returns-clause-wrote : goal.returns-clause-wrote
@@ -80,7 +82,7 @@ returns-clause-wrote g c s tells tied =
     let wide = subst (λ (n : ℕ). 262144 < c.self.inside.log.filled + n) (c.record_need.ensures ∙ sym (ap need same))
     (not_within (c.self.inside.log.filled + c.record_need.result) c.fits.result c.fits.ensures.1 c.if-fits.false) in
     wrote_as spelling bytes s e (entry_of c.args.key.now (value_of c.args.value)) c.append-2.result c.append-2.new.self old new same
-    (flush_then spelling bytes s e (short_of_logged e (subst IsLogged (sym same) c.requires.sound)) (need_over c.self.inside.log.filled (need e) s.log inside.log inside.sound.log_fits wide) c.in_ok-flush_memory.field-0 c.append-2.result
+    (flush_then spelling bytes s e (short_of_logged e (subst IsLogged (sym same) c.requires.sound)) (need_over c.self.inside.log.filled (need e) (entries_in s) inside.log inside.sound.log_fits wide) c.in_ok-flush_memory.field-0 c.append-2.result
     c.flush_memory.new.self c.append-2.new.self old flushed_at new c.append-2.ensures.failure c.append-2.ensures.stopped
     (c.in_ok-flush_memory.ensures.wrote s tells (tied_with spelling bytes _ s old c.reserve_for.new.self c.reserve_for.ensures.kept inside))
     (λ to tied_then. c.append-2.ensures.turns to tells tied_then))
@@ -115,7 +117,7 @@ pub returns-clause-stays : goal.returns-clause-stays
 returns-clause-stays g c =
     stopped_stays c.append-2.result (g.D.Disk.world c.flush_memory.new.disk) (g.D.Disk.world c.append-2.new.disk) c.args.self.now c.append-2.new.self c.append-2.ensures.failure
 
--- ---- when a limit or want of room refuses it
+-- ---- when a limit or lack of room refuses it
 
 pub returns-in_err-entry-clause-due : goal.returns-in_err-entry-clause-due
 returns-in_err-entry-clause-due g c =

@@ -50,7 +50,7 @@ returns-in_err-advance g c =
         after = tt;
         sound = search rules;
         idle = search rules;
-        taken = search rules;
+        never_memory = search rules;
         cause = of_some_block c.from_residual.result (λ n. HasReadCause (byte_of_page (page_at t n)) before after)
             c.args.self.now.block block (length t.index.rows) c.advance.ensures.onward c.in_err-advance.ensures.there cause;
         fault = λ tells. of_some_block c.from_residual.result (λ n. IsGetFault t n before.seen.held)

@@ -1,0 +1,19 @@
+use Rattle.std.proofs.Common.{◌≡◌, ◌<◌, ◌≤◌, ◌-◌, ◌++◌, length, take}
+use Rattle.std.specs.Prelude.{IsTrue}
+use Rattle.line_model.specs.Replies.{text_of}
+use Rattle.outside.specs.Streams.{SayMoves}
+use Rattle.store_commands.specs.Spoken.{spoken}
+use Rattle.lines_in.proofs.saying.add_reply.Given as goal
+
+-- what was said, and what waits, is what waited at first and so much of the reply
+abbrev pub invariant-loop-used : goal.invariant-loop-used
+invariant-loop-used g l = record {
+  said : IsTrue g.W.Outside.tells_output
+      → (g.W.Disk.world l.out).beside.said ++ take l.used l.buffer ≡ (g.W.Disk.world l.fn.out).beside.said ++ (take l.fn.used l.fn.buffer ++ take l.from (text_of (spoken l.fn.reply)));
+  within : l.from ≤ length (text_of (spoken l.fn.reply));
+  room : l.used < length l.buffer;
+  moves : SayMoves (g.W.Disk.world l.fn.out) (g.W.Disk.world l.out);
+}
+
+abbrev pub decreases-loop-used : goal.decreases-loop-used
+decreases-loop-used g l = length (text_of (spoken l.fn.reply)) - l.from

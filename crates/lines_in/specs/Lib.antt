@@ -1,0 +1,12 @@
+pub use Rattle.disk_trait.specs.World
+pub use Rattle.line_model.specs.Lines
+pub use Rattle.line_model.specs.Replies
+pub use Rattle.outside.specs.During
+pub use Rattle.outside.specs.Streams
+pub mod Causes
+pub mod Holding
+pub mod Reading
+pub mod Saying
+pub mod Statuses
+pub mod Taken
+pub mod Unserved
