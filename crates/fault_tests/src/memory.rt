@@ -6,6 +6,7 @@ use crate::asserts::{check_that, check_that_at};
 use crate::faults::{GETS, SCRIPT};
 use crate::runs::{Ended, commanded, disk_of, served, stopped};
 use disk_mem::MemDisk;
+use disk_trait::Disk;
 use std::alloc::{AllocError, Global};
 use std::test::Fail;
 use test_kit::is_not_the_last;
@@ -250,6 +251,45 @@ fn each_allocation_of_new_numbers_may_be_refused(rt: HostRuntime) -> Result<(), 
             check_that_at(&rt, &words, is_set(alloc, &first, words, line, numbers)?);
             check_that_at(&rt, &words, is_unsaid(alloc, &first, words)?);
         }
+    }
+    check_that_at(&rt, &"the last allocation", is_not_the_last(alloc));
+    Ok(())
+}
+
+// What a check says of the store with the four tables, and with another byte in the block of the first.
+const CLEAN: &[u8] = b"clean tables 4 entries 4 live 4 log 0\n";
+
+const WRONG: &[u8] = b"finding block 786432 sum ec7a8b9dd3574ff2 7ed8be8180f1e9fb\nfindings 1\n";
+
+// Whether a check says this, or the beginning of its lines and then that there was no memory; with 6 the output found none.
+fn is_checked(alloc: Global, first: &MemDisk, status: u8, whole: &[u8]) -> Result<bool, Fail> {
+    let end = run_over(alloc, "check", first.bytes())?;
+    let told = match end.status {
+        6 => whole.starts_with(&end.said),
+        7 => match end.said.as_slice().strip_suffix(MEMORY) {
+            Some(before) => whole.starts_with(before),
+            None => false,
+        },
+        other => other == status && end.said.as_slice() == whole,
+    };
+    let same = end.disk.bytes() == first.bytes();
+    Ok(told && same && end.disk.starved() == 0)
+}
+
+// Another byte in the block of the first table.
+fn damaged(alloc: Global, first: &MemDisk) -> Result<Box<MemDisk>, Fail> {
+    let mut disk = disk_of(alloc, first.bytes())?;
+    disk.write(786_440, &[7])?;
+    Ok(disk_of(alloc, disk.bytes())?)
+}
+
+#[test]
+fn each_allocation_of_a_checking_run_may_be_refused(rt: HostRuntime) -> Result<(), Fail> {
+    let alloc = rt.alloc();
+    if let Some(first) = four_tables(alloc)? {
+        check_that(&rt, is_checked(alloc, &first.disk, 0, CLEAN)?);
+        let wrong = damaged(alloc, &first.disk)?;
+        check_that(&rt, is_checked(alloc, &wrong, 12, WRONG)?);
     }
     check_that_at(&rt, &"the last allocation", is_not_the_last(alloc));
     Ok(())

@@ -168,36 +168,119 @@ fn rows_that_do_not_fit_are_said(rt: HostRuntime) -> Result<(), Fail> {
     Ok(())
 }
 
-// The disk of a table of 61 whose filter is that of 62, with the sums made right.
-fn with_other_filter(alloc: Global) -> Result<Box<MemDisk>, Fail> {
+// The disk of a table of 61 whose filter is that of the table which other lines make, with so many entries in its row, and the
+// sums made right.
+fn with_filter_of(alloc: Global, lines: &[u8], entries: u8) -> Result<Box<MemDisk>, Fail> {
     let mut end = served(alloc, base_disk(alloc)?, b"put 61 62\nflush\n")?;
-    let mut other = served(alloc, base_disk(alloc)?, b"put 62 62\nflush\n")?;
+    let mut other = served(alloc, base_disk(alloc)?, lines)?;
     let mut page = [0; 4096];
     let (mut length, mut sum) = ([0; 8], [0; 8]);
     other.disk.read(794_624, &mut page)?;
     other.disk.read(131_080 + 64 + 32, &mut length)?;
     other.disk.read(131_080 + 64 + 48, &mut sum)?;
     end.disk.write(794_624, &page)?;
-    let changes: [(usize, &[u8]); 2] = [(96, &length), (112, &sum)];
+    let changes: [(usize, &[u8]); 3] = [(84, &[entries]), (96, &length), (112, &sum)];
     change(&mut end.disk, 131_080, &changes, 128)?;
     Ok(disk_of(alloc, end.disk.bytes())?)
 }
 
-// It opens and denies the key that is there; a check says so.
+// Lines that make a table with another filter, the entries that the row of 61 then has, lines that are served without a word of
+// it, their replies, and what a check says. The filter of 62 denies the key that is there, and bounds a range no worse; of that of
+// both keys nothing is seen.
+type Mended = (
+    &'static [u8],
+    u8,
+    &'static [u8],
+    &'static [u8],
+    &'static [u8],
+);
+
+const MENDED: [Mended; 2] = [
+    (
+        b"put 62 62\nflush\n",
+        1,
+        b"get 61\nrange - 7a 9\n",
+        b"none\nat 61 62\nend 1\n",
+        b"finding filter 794624 leaf 0\nfindings 1\n",
+    ),
+    (
+        b"put 61 62\nput 62 62\nflush\n",
+        2,
+        b"get 61\nget 62\nrange - 7a 9\n",
+        b"val 62\nnone\nat 61 62\nend 1\n",
+        b"finding index 790528 count\nfinding filter 794624 leaf 1\nfindings 2\n",
+    ),
+];
+
+// It opens and is served; a check says what is wrong.
 #[test]
 fn a_filter_of_other_keys_is_found(rt: HostRuntime) -> Result<(), Fail> {
     let alloc = rt.alloc();
-    let disk = with_other_filter(alloc)?;
-    let denied = served(alloc, disk_of(alloc, disk.bytes())?, b"get 61\n")?;
-    check(&rt, &denied, 0, b"none\n", 0);
+    for (number, (other, entries, lines, replies, said)) in MENDED.iter().copied().enumerate() {
+        let disk = with_filter_of(alloc, other, entries)?;
+        let end = served(alloc, disk_of(alloc, disk.bytes())?, lines)?;
+        check(&rt, &end, 0, replies, number as u64);
+        let end = commanded(alloc, "check", disk)?;
+        check(&rt, &end, 12, said, number as u64);
+    }
+    Ok(())
+}
+
+// Adds the line that puts 2,000 bytes under a key.
+fn push_half_page(lines: &mut Vec<u8>, key: &[u8]) -> Result<(), Fail> {
+    lines.extend_from_slice(b"put ")?;
+    lines.extend_from_slice(key)?;
+    lines.push(b' ')?;
+    for _ in 0..2_000 {
+        lines.extend_from_slice(b"78")?;
+    }
+    lines.push(b'\n')?;
+    Ok(())
+}
+
+// The disk of a table of two blocks with two pairs each, a and b, c and d.
+fn two_blocks(alloc: Global) -> Result<Box<MemDisk>, Fail> {
+    let mut lines = Vec::new(alloc);
+    for key in [b"61", b"62", b"63", b"64"] {
+        push_half_page(&mut lines, key)?;
+    }
+    lines.extend_from_slice(b"flush\n")?;
+    left_behind(alloc, base_disk(alloc)?, &lines)
+}
+
+// Two parts of a page change places.
+fn change_over(disk: &mut MemDisk, one: u32, other: u32, length: usize) -> Result<(), DiskFault> {
+    let (mut first, mut second) = ([0; 4096], [0; 4096]);
+    let length = length.min(4096);
+    disk.read(u64::from(one), &mut first[..length])?;
+    disk.read(u64::from(other), &mut second[..length])?;
+    disk.write(u64::from(one), &second[..length])?;
+    disk.write(u64::from(other), &first[..length])
+}
+
+// The blocks change places, and their sums in the index, which has 41 bytes; then its sum and the body's are made right.
+fn change_blocks_over(disk: &mut MemDisk) -> Result<(), DiskFault> {
+    change_over(disk, 786_432, 790_528, 4096)?;
+    change_over(disk, 794_639, 794_654, 8)?;
+    let mut index = [0; 41];
+    disk.read(794_624, &mut index)?;
+    let changes: [(usize, &[u8]); 1] = [(104, &sum_of(&index))];
+    change(disk, 131_080, &changes, 128)
+}
+
+const FOUR_GETS: &[u8] = b"get 61\nget 62\nget 63\nget 64\n";
+
+// It opens, and a get looks for its key in the other block.
+#[test]
+fn blocks_in_each_others_place_are_found(rt: HostRuntime) -> Result<(), Fail> {
+    let alloc = rt.alloc();
+    let mut disk = two_blocks(alloc)?;
+    change_blocks_over(&mut disk)?;
+    let end = served(alloc, disk_of(alloc, disk.bytes())?, FOUR_GETS)?;
+    check(&rt, &end, 0, b"none\nnone\nnone\nnone\n", 0);
     let end = commanded(alloc, "check", disk)?;
-    check(
-        &rt,
-        &end,
-        12,
-        b"finding filter 794624 leaf 0\nfindings 1\n",
-        1,
-    );
+    let said = b"finding block 786432 keys\nfinding block 790528 keys\nfindings 2\n";
+    check(&rt, &end, 12, said, 1);
     Ok(())
 }
 

@@ -18,6 +18,8 @@ pub enum Wanted {
     Puts,
     /// How many pages the pairs take in a compacted store.
     Sizes,
+    /// What a check of a compacted store takes beside its floor.
+    Check,
 }
 
 /// What a store has, and what is asked of it.
@@ -30,7 +32,7 @@ pub struct Load {
     pub settings: Settings,
     /// The bytes of each value.
     pub value_bytes: usize,
-    /// How often the store is asked, or merged.
+    /// How often the store is asked, merged or checked.
     pub calls: usize,
     pub seed: u64,
     /// What keys are like, where that is asked.
@@ -64,6 +66,7 @@ fn parse_wanted(word: &str) -> Result<Wanted> {
         "merge" => Ok(Wanted::Merge),
         "puts" => Ok(Wanted::Puts),
         "sizes" => Ok(Wanted::Sizes),
+        "check" => Ok(Wanted::Check),
         _ => bail!("no such measure: see --help"),
     }
 }

@@ -7,6 +7,7 @@
 //! store_bench merge --device /dev/shm/furqeldi.bench --count 40000 --value-bytes 100 --hash-bits 8 --real-bits 8 --calls 9
 //! store_bench puts --device /dev/shm/furqeldi.bench --count 1000000 --hash-bits 8 --real-bits 8 --calls 100000
 //! store_bench sizes --device /dev/shm/furqeldi.bench --keys addresses --count 100000 --value-bytes 20
+//! store_bench check --device /dev/shm/furqeldi.bench --count 1000000 --hash-bits 8 --real-bits 8 --calls 9
 //! ```
 //!
 //! The file at the path becomes a new store, whatever stood there. Random keys of 8 bytes with values of 8 bytes are put and
@@ -15,6 +16,7 @@
 #![tactic(auto)]
 
 mod calls;
+mod checking;
 mod counted;
 mod counts;
 mod filling;
@@ -54,7 +56,8 @@ kind --filter, of --hash-bits, --real-bits and --ratio:
   merge     what it takes to merge --tables tables of level 0, beside its floor, the least of --calls merges
   puts      what puts in random order write, the longest slice of a merge, and what a compacted store reads in --calls calls
   sizes     the pages of a compacted store, and the bytes of data and index a pair, of keys of the kind --keys: random or rising
-            numbers of 8 bytes, digits (16 of them), addresses (of 46 letters) or users (a user, a second and a number)";
+            numbers of 8 bytes, digits (16 of them), addresses (of 46 letters) or users (a user, a second and a number)
+  check     what a check of a compacted store takes, beside its floor, the least of --calls checks";
 
 fn main(rt: HostRuntime) -> Result<()> {
     let words: Vec<String> = env::args(&rt)?.skip(1).collect(rt.alloc())?;
@@ -96,5 +99,6 @@ fn measure<F: RangeFilter>(
         Wanted::Merge => merging::measure_merges::<F>(rt, alloc, disk, load, &keys),
         Wanted::Puts => filling::fill_and_print::<F>(rt, alloc, disk, load, &keys),
         Wanted::Sizes => sizes::measure_sizes::<F>(rt, alloc, disk, load),
+        Wanted::Check => checking::measure_checks::<F>(rt, alloc, disk, load, &keys),
     }
 }
