@@ -4,6 +4,8 @@
 //! plain programs beside the definitions are made of them: what passes from one to another is moved, and copied only by
 //! [`Entry::copy`]. An entry owns its bytes, two pieces of memory, which it never grows.
 //!
+//! A [`Change`] is what a log keeps: it sets an entry, or deletes the keys of a [`DeletedRange`].
+//!
 //! A slice of entries is seen as the list of entries that the definitions speak of. Beside it stand a few loops over such
 //! lists, as slow as they are plain: each look-up goes through the whole list. A store looks its entries up in `mem_table`
 //! and in its tables, and not here.
@@ -18,9 +20,15 @@
 #![tactic(auto)]
 
 mod body;
+mod change;
 mod entry;
+mod kind;
 mod list;
+mod range;
 
 pub use body::body_length;
+pub use change::Change;
 pub use entry::Entry;
+pub use kind::ChangeKind;
 pub use list::{copied, lookup, newest_of, push_copy};
+pub use range::DeletedRange;

@@ -24,6 +24,16 @@ del_entry key = record { key = key; value = None }
 abbrev pub keys_of : List Entry → List Bytes
 keys_of entries = map (λ (e : Entry). e.key) entries
 
+-- the key of the first entry, and of the last
+abbrev pub first_key : List Entry → Bytes
+first_key [] = []
+first_key (entry ∷ later) = entry.key
+
+abbrev pub last_key : List Entry → Bytes
+last_key [] = []
+last_key (entry ∷ []) = entry.key
+last_key (entry ∷ next ∷ later) = last_key (next ∷ later)
+
 abbrev pub change_by : Map → Bytes → Option Bytes → Map
 change_by map key (Some value) = put map key value
 change_by map key None = del map key

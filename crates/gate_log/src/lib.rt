@@ -1,11 +1,12 @@
-//! The log: entries that a crash leaves whole or not at all.
+//! The log: changes that a crash leaves whole or not at all.
 //!
 //! A log lies in one of two areas of a device and is a row of records: a gate (one byte), the kind (one byte: 1 a put, 2
-//! a delete), the length of the key (two bytes), that of the value (four), the key and the value. A gate is open where
+//! a delete, 3 a range of keys that is deleted), the length of the key (two bytes), that of the value (four), the key and
+//! the value; a range has its bounds in their places. A gate is open where
 //! its byte is 1, and the records end at the first gate that is not. A record is written behind its closed gate,
 //! together with a closed gate behind it, and is made to last before its own gate is opened: so no sum is needed, and a
 //! crash shows each record or none of it. Over any disk that tells what it holds, each image that a crash may leave in
-//! an append spells the entries before it, with the new one or without; at `Ok` with it alone.
+//! an append spells the changes before it, with the new one or without; at `Ok` with it alone.
 //!
 //! An append is two writes and two syncs. Replaying is one read of the whole area. Nothing is taken away from a log: it
 //! is full at 262,144 bytes, and [`Log::start`] begins it anew. Not for records over a buffer's length, and not for a
@@ -16,7 +17,7 @@
 //! if log.fits(record_need(key, Some(value))) {
 //!     log.append(&mut disk, &mut buf, key, Some(value))?;
 //! }
-//! let (log, entries) = Log::replay(alloc, &mut disk, 0)?;     // what was appended, in order
+//! let (log, changes) = Log::replay(alloc, &mut disk, 0)?;     // what was appended, in order
 //! ```
 #![tactic(auto)]
 
@@ -28,5 +29,5 @@ mod writing;
 
 pub use fault::LogFault;
 pub use log::Log;
-pub use reading::entries_in;
-pub use writing::{BUFFER_BYTES, record_need};
+pub use reading::changes_in;
+pub use writing::{BUFFER_BYTES, range_need, record_need};

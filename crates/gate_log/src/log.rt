@@ -4,19 +4,23 @@ ghost use Rattle.disk_trait.specs.Fault.{IsWriteThroughFault};
 ghost use Rattle.disk_trait.specs.Image.{overwritten};
 ghost use Rattle.disk_trait.specs.World.{Now, Leads, ReadMoves, WriteMoves, Rose};
 ghost use Rattle.key_base.specs.Limits.{log_bytes, max_key_bytes, max_logged_value_bytes};
-ghost use Rattle.entry_model.specs.Entries.{filled, need, body_length, record_bytes, entry_of, IsLogged};
-ghost use Rattle.entry_model.specs.Entries as model;
+ghost use Rattle.entry_model.specs.Entries.{need, body_length, record_bytes, entry_of, IsLogged};
+ghost use Rattle.log_model.specs.Changes.{change_record, filled_by, need_of, IsLoggedChange};
+ghost use Rattle.range_model.specs.Ranges.{IsBound, range_of};
+ghost use Rattle.range_model.specs.Sources.{ClearsKeys, Sets, Clears};
+ghost use Rattle.range_model.specs.Sources as model;
+ghost use Rattle.key_base.specs.ByteOrder.{IsBefore};
 ghost use Rattle.log_model.specs.Area.{Position, LogIs, WithOrWithout, IsNextRecord, start_of, area_in};
 ghost use Rattle.gate_log.specs.Faults.{IsAppendFault, IsShapeIn, HasReadCause, IsNoShape};
 ghost use Rattle.std.specs.List.{AllByRecursion};
 ghost use Rattle.gate_log.specs.Values.{value_of};
 
 use crate::fault::LogFault;
-use crate::reading::entries_in;
-use crate::writing::{CLOSED, OPEN, put_record};
+use crate::reading::changes_in;
+use crate::writing::{CLOSED, OPEN, put_range, put_record};
 use byte_fields::PartFault;
 use disk_trait::{Disk, DiskFault, write_through};
-use entry_list::Entry;
+use entry_list::{Change, ChangeKind};
 use key_base::LOG_BYTES;
 use std::alloc::Global;
 use std::marker::Model;
@@ -66,33 +70,33 @@ impl Log {
         Ok(Log { area, filled: 0 })
     }
 
-    /// Begins a log in an area, 0 or 1, and adds these entries in order: a start and an append each.
+    /// Begins a log in an area, 0 or 1, and adds these changes in order: a start and an append each.
     ///
-    /// At `Ok` each image that a crash may leave has these entries in the area, so that replaying it gives them again. At
+    /// At `Ok` each image that a crash may leave has these changes in the area, so that replaying it gives them again. At
     /// `Err` some of them may stand, from the first on. `buf` has room for each body and one byte more.
     pub fn rewrite<D: Disk>(
         disk: &mut D,
         area: u8,
         buf: &mut [u8],
-        entries: &[Entry],
+        changes: &[Change],
     ) -> Result<Log, DiskFault>
         requires area { area ≤ 1 }
-        requires sound { AllByRecursion IsLogged entries.now }
-        requires fits { filled entries.now < log_bytes }
+        requires sound { AllByRecursion IsLoggedChange changes.now }
+        requires fits { filled_by changes.now < log_bytes }
         requires room { body_length max_key_bytes max_logged_value_bytes + 1 ≤ length buf.old }
-        ensures log { IfOk result (λ log. log ≡ record { area = area; filled = filled entries.now }) }
-        ensures stands { IsTrue D.tells → OnOk result (Now (LogIs area entries.now) (D.world disk.new)) }
+        ensures log { IfOk result (λ log. log ≡ record { area = area; filled = filled_by changes.now }) }
+        ensures stands { IsTrue D.tells → OnOk result (Now (LogIs area changes.now) (D.world disk.new)) }
         ensures moves { WriteMoves (start_of area) log_bytes (D.world disk.old) (D.world disk.new) }
         ensures cause { OnErr result (Rose (D.world disk.old).seen.write_faults (D.world disk.new).seen.write_faults) }
     {
         let mut log = Log::start(disk, area)?;
-        for entry in entries {
-            log.add(disk, buf, entry)?;
+        for change in changes {
+            log.add(disk, buf, change)?;
         }
         Ok(log)
     }
 
-    /// Reads the log of an area, 0 or 1: the entries of its records, in the order of writing, up to the first gate that
+    /// Reads the log of an area, 0 or 1: the changes of its records, in the order of writing, up to the first gate that
     /// is not open. One read of the whole area, whose memory is taken first.
     ///
     /// `Ok` exactly where the area keeps the rules of the format, but for want of memory and faults of the device, else
@@ -101,20 +105,21 @@ impl Log {
         alloc: Global,
         disk: &mut D,
         area: u8,
-    ) -> Result<(Log, Vec<Entry>), LogFault>
+    ) -> Result<(Log, Vec<Change>), LogFault>
         requires { area ≤ 1 }
-        ensures log { IfOk result (λ found. found.0 ≡ record { area = area; filled = filled found.1.items }) }
-        ensures entries { IsTrue D.tells → IfOk result (λ found. LogIs area found.1.items (D.world disk.old).seen.held) }
-        ensures sound { IfOk result (λ found. AllByRecursion IsLogged found.1.items) }
-        ensures within { IfOk result (λ found. filled found.1.items < log_bytes) }
-        ensures exact { (entries : List model.Entry) → IsTrue D.tells → LogIs area entries (D.world disk.old).seen.held → MatchResult result (λ found. found.1.items ≡ entries) IsNoShape }
+        ensures log { IfOk result (λ found. found.0 ≡ record { area = area; filled = filled_by found.1.items }) }
+        ensures changes { IsTrue D.tells → IfOk result (λ found. LogIs area found.1.items (D.world disk.old).seen.held) }
+        ensures sound { IfOk result (λ found. AllByRecursion IsLoggedChange found.1.items) }
+        ensures bounds { IfOk result (λ found. AllByRecursion ClearsKeys found.1.items) }
+        ensures within { IfOk result (λ found. filled_by found.1.items < log_bytes) }
+        ensures exact { (changes : List model.Change) → IsTrue D.tells → LogIs area changes (D.world disk.old).seen.held → MatchResult result (λ found. found.1.items ≡ changes) IsNoShape }
         ensures shape { IsTrue D.tells → IfErr result (IsShapeIn area (D.world disk.old).seen.held) }
         ensures cause { IfErr result (HasReadCause area (D.world disk.old) (D.world disk.new)) }
         ensures moves { ReadMoves 1 (D.world disk.old) (D.world disk.new) }
     {
         let bytes = read_area(alloc, disk, area)?;
-        match entries_in(alloc, &bytes) {
-            Ok((entries, filled)) => Ok((Log { area, filled }, entries)),
+        match changes_in(alloc, &bytes) {
+            Ok((changes, filled)) => Ok((Log { area, filled }, changes)),
             Err(PartFault::Memory) => Err(LogFault::Memory),
             Err(PartFault::Shape { place, rule }) => Err(LogFault::Shape {
                 at: area_start(area) + place as u64,
@@ -153,8 +158,8 @@ impl Log {
         requires sound { IsLogged (entry_of key.now (value_of value)) }
         requires fits { self.old.filled + need (entry_of key.now (value_of value)) ≤ log_bytes }
         requires room { need (entry_of key.now (value_of value)) ≤ length buf.old + 1 }
-        ensures crash { (entries : List model.Entry) → IsTrue D.tells → self.old.filled ≡ filled entries
-            → Leads (LogIs self.old.area entries) (WithOrWithout self.old.area entries (entry_of key.now (value_of value.entry))) (LogIs self.old.area (entries ++ entry_of key.now (value_of value.entry) ∷ []))
+        ensures crash { (changes : List model.Change) → IsTrue D.tells → self.old.filled ≡ filled_by changes
+            → Leads (LogIs self.old.area changes) (WithOrWithout self.old.area changes (Sets (entry_of key.now (value_of value.entry)))) (LogIs self.old.area (changes ++ Sets (entry_of key.now (value_of value.entry)) ∷ []))
             result (D.world disk.old) (D.world disk.new) }
         ensures held { IsTrue D.tells → OnOk result ((D.world disk.new).seen.held
             ≡ overwritten (D.world disk.old).seen.held (start_of self.old.area + self.old.filled) (record_bytes (entry_of key.now (value_of value.entry)) ++ 0 ∷ [])) }
@@ -172,20 +177,61 @@ impl Log {
         Ok(())
     }
 
-    // Adds an entry that was read from a log.
-    fn add<D: Disk>(&mut self, disk: &mut D, buf: &mut [u8], entry: &Entry) -> Result<(), DiskFault>
-        requires sound { IsLogged entry.now }
-        requires fits { self.old.filled + need entry.now ≤ log_bytes }
-        requires room { body_length max_key_bytes max_logged_value_bytes + 1 ≤ length buf.old }
-        ensures crash { (entries : List model.Entry) → IsTrue D.tells → self.old.filled ≡ filled entries
-            → Leads (LogIs self.old.area entries) (WithOrWithout self.old.area entries entry.now) (LogIs self.old.area (entries ++ entry.now ∷ []))
+    /// Adds the record of a range of keys that is deleted, as [`Log::append`] of an entry: from `lo` on, and up to `hi`
+    /// without it.
+    pub fn append_range<D: Disk>(
+        &mut self,
+        disk: &mut D,
+        buf: &mut [u8],
+        lo: &[u8],
+        hi: &[u8],
+    ) -> Result<(), DiskFault>
+        requires range { IsBefore lo.now hi.now }
+        requires lo { IsBound lo.now }
+        requires hi { IsBound hi.now }
+        requires fits { self.old.filled + need_of (Clears (range_of lo.now hi.now)) ≤ log_bytes }
+        requires room { need_of (Clears (range_of lo.now hi.now)) ≤ length buf.old + 1 }
+        ensures crash { (changes : List model.Change) → IsTrue D.tells → self.old.filled ≡ filled_by changes
+            → Leads (LogIs self.old.area changes) (WithOrWithout self.old.area changes (Clears (range_of lo.now hi.now))) (LogIs self.old.area (changes ++ Clears (range_of lo.now hi.now) ∷ []))
             result (D.world disk.old) (D.world disk.new) }
+        ensures held { IsTrue D.tells → OnOk result ((D.world disk.new).seen.held
+            ≡ overwritten (D.world disk.old).seen.held (start_of self.old.area + self.old.filled) (change_record (Clears (range_of lo.now hi.now)) ++ 0 ∷ [])) }
         ensures area { self.new.area ≡ self.old.area }
-        ensures filled { OnOk result (self.new.filled + 1 ≡ self.old.filled + need entry.now) }
-        ensures moves { WriteMoves (start_of self.old.area + self.old.filled) (need entry.now) (D.world disk.old) (D.world disk.new) }
+        ensures filled { OnOk result (self.new.filled + 1 ≡ self.old.filled + need_of (Clears (range_of lo.now hi.now))) }
+        ensures unchanged { OnErr result (self.new ≡ self.old) }
+        ensures moves { WriteMoves (start_of self.old.area + self.old.filled) (need_of (Clears (range_of lo.now hi.now))) (D.world disk.old) (D.world disk.new) }
+        ensures fault { IfErr result (IsAppendFault (start_of self.old.area + self.old.filled)) }
         ensures cause { OnErr result (Rose (D.world disk.old).seen.write_faults (D.world disk.new).seen.write_faults) }
     {
-        self.append(disk, buf, entry.key(), entry.value())
+        let gate = area_start(self.area) + self.filled as u64;
+        let length = put_range(buf, lo, hi);
+        write_record(disk, gate, &buf[..length])?;
+        self.filled += length;
+        Ok(())
+    }
+
+    // Adds a change that was read from a log.
+    fn add<D: Disk>(
+        &mut self,
+        disk: &mut D,
+        buf: &mut [u8],
+        change: &Change,
+    ) -> Result<(), DiskFault>
+        requires sound { IsLoggedChange change.now }
+        requires fits { self.old.filled + need_of change.now ≤ log_bytes }
+        requires room { body_length max_key_bytes max_logged_value_bytes + 1 ≤ length buf.old }
+        ensures crash { (changes : List model.Change) → IsTrue D.tells → self.old.filled ≡ filled_by changes
+            → Leads (LogIs self.old.area changes) (WithOrWithout self.old.area changes change.now) (LogIs self.old.area (changes ++ change.now ∷ []))
+            result (D.world disk.old) (D.world disk.new) }
+        ensures area { self.new.area ≡ self.old.area }
+        ensures filled { OnOk result (self.new.filled + 1 ≡ self.old.filled + need_of change.now) }
+        ensures moves { WriteMoves (start_of self.old.area + self.old.filled) (need_of change.now) (D.world disk.old) (D.world disk.new) }
+        ensures cause { OnErr result (Rose (D.world disk.old).seen.write_faults (D.world disk.new).seen.write_faults) }
+    {
+        match change.kind() {
+            ChangeKind::Sets(entry) => self.append(disk, buf, entry.key(), entry.value()),
+            ChangeKind::Clears(range) => self.append_range(disk, buf, range.lo(), range.hi()),
+        }
     }
 }
 
@@ -207,8 +253,8 @@ fn read_area<D: Disk>(alloc: Global, disk: &mut D, area: u8) -> Result<Vec<u8>, 
 // Writes a body with the closed gate behind it and makes them last, and then opens the gate before them.
 fn write_record<D: Disk>(disk: &mut D, gate: u64, bytes: &[u8]) -> Result<(), DiskFault>
     requires { gate + 1 + length bytes.now ≤ 2 ^ 48 }
-    ensures crash { (area : ℕ) (entries : List model.Entry) (entry : model.Entry) → IsTrue D.tells → IsNextRecord area entries entry gate bytes.now
-        → Leads (LogIs area entries) (WithOrWithout area entries entry) (LogIs area (entries ++ entry ∷ [])) result (D.world disk.old) (D.world disk.new) }
+    ensures crash { (area : ℕ) (changes : List model.Change) (change : model.Change) → IsTrue D.tells → IsNextRecord area changes change gate bytes.now
+        → Leads (LogIs area changes) (WithOrWithout area changes change) (LogIs area (changes ++ change ∷ [])) result (D.world disk.old) (D.world disk.new) }
     ensures held { IsTrue D.tells → OnOk result ((D.world disk.new).seen.held ≡ overwritten (D.world disk.old).seen.held gate (1 ∷ bytes.now)) }
     ensures moves { WriteMoves gate (length bytes.now + 1) (D.world disk.old) (D.world disk.new) }
     ensures fault { IfErr result (IsAppendFault gate) }

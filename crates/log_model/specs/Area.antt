@@ -3,7 +3,8 @@ use Rattle.std.specs.Prelude.{◌≡◌, ◌⊎◌, ℕ, ◌+◌, ◌*◌, ◌�
 use Rattle.key_base.specs.Limits.{log_bytes}
 use Rattle.disk_trait.specs.Image.{Image, window}
 use Rattle.map_model.specs.SortedMap.{Bytes}
-use Rattle.entry_model.specs.Entries.{Entry, body, filled, need, IsLogged}
+use Rattle.range_model.specs.Sources.{Change}
+use Rattle.log_model.specs.Changes.{IsLoggedChange, change_body, filled_by, need_of}
 use Rattle.log_model.specs.Records.{Spells, Breaks}
 
 -- which area a log is in, and how many bytes its records take
@@ -22,21 +23,21 @@ start_of area = log_bytes * (area + 1)
 abbrev pub area_in : ℕ → Image → Bytes
 area_in area image = window image (start_of area) area_size
 
--- the area spells these entries
-abbrev pub LogIs : ℕ → List Entry → Image → Type 0
-LogIs area entries image = Spells entries (area_in area image)
+-- the area spells these changes
+abbrev pub LogIs : ℕ → List Change → Image → Type 0
+LogIs area changes image = Spells changes (area_in area image)
 
--- these entries, with one more or without it
-abbrev pub WithOrWithout : ℕ → List Entry → Entry → Image → Type 0
-WithOrWithout area entries entry image = LogIs area entries image ⊎ LogIs area (entries ++ entry ∷ []) image
+-- these changes, with one more or without it
+abbrev pub WithOrWithout : ℕ → List Change → Change → Image → Type 0
+WithOrWithout area changes change image = LogIs area changes image ⊎ LogIs area (changes ++ change ∷ []) image
 
 -- the area breaks a rule; the place is that of the device's byte
 abbrev pub LogBreaks : ℕ → ℕ → ℕ → Image → Type 0
 LogBreaks area at rule image = (place : ℕ) × (at ≡ start_of area + place) × Breaks place rule (area_in area image)
 
--- at this gate, the next one behind these entries, comes the entry: its body, with a closed gate behind it
-pub record IsNextRecord (area : ℕ) (entries : List Entry) (entry : Entry) (gate : ℕ) (bytes : Bytes) : Type 0 where
-  pub here : gate ≡ start_of area + filled entries
-  pub bytes_are : bytes ≡ body entry ++ 0 ∷ []
-  pub sound : IsLogged entry
-  pub room : filled entries + need entry ≤ log_bytes
+-- at this gate, the next one behind these changes, comes the change: its body, with a closed gate behind it
+pub record IsNextRecord (area : ℕ) (changes : List Change) (change : Change) (gate : ℕ) (bytes : Bytes) : Type 0 where
+  pub here : gate ≡ start_of area + filled_by changes
+  pub bytes_are : bytes ≡ change_body change ++ 0 ∷ []
+  pub sound : IsLoggedChange change
+  pub room : filled_by changes + need_of change ≤ log_bytes

@@ -2,6 +2,9 @@ pub use Rattle.disk_trait.specs.Image
 pub use Rattle.entry_model.specs.Entries
 pub use Rattle.key_base.specs.Limits
 pub use Rattle.map_model.specs.SortedMap
+pub use Rattle.range_model.specs.Ranges
+pub use Rattle.range_model.specs.Sources
 pub mod Area
+pub mod Changes
 pub mod Records
 pub mod Laws

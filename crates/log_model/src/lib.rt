@@ -5,7 +5,7 @@
 //! `gate_log`. Not for bytes that no log wrote: it says which rule they break, and no more.
 //!
 //! ```text
-//! 01 record 01 record 00        two entries
+//! 01 record 01 record 00        two changes
 //! 00                            none
 //! ```
 #![tactic(auto)]

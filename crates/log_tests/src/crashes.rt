@@ -2,10 +2,11 @@
 use crate::boxes::{boxed, failing_disk, new_disk};
 use disk_mem::{Choice, MemDisk};
 use disk_trait::{Disk, DiskFault, Op};
-use gate_log::{BUFFER_BYTES, Log, LogFault, record_need};
-use key_base::{LOG_BYTES, MAX_KEY_BYTES, MAX_LOGGED_VALUE_BYTES};
+use gate_log::{BUFFER_BYTES, Log, LogFault, range_need, record_need};
+use key_base::{LOG_BYTES, MAX_KEY_BYTES, MAX_LOGGED_VALUE_BYTES, compare};
 use mem_table::MemTable;
 use std::alloc::{AllocError, Global};
+use std::cmp::Ordering;
 use std::test::Fail;
 
 // Puts a value, where key and value keep their limits and the record fits. Answers whether the record is there.
@@ -25,6 +26,15 @@ fn delete<D: Disk>(log: &mut Log, disk: &mut D, buf: &mut [u8], key: &[u8]) -> b
         return false;
     }
     log.append(disk, buf, key, None).is_ok()
+}
+
+// Deletes the keys of a range, whose bounds are keys of one byte and rise.
+fn clear<D: Disk>(log: &mut Log, disk: &mut D, buf: &mut [u8], lo: &[u8], hi: &[u8]) -> bool {
+    let rise = lo.len() == 1 && hi.len() == 1 && compare(lo, hi) == Ordering::Less;
+    if !rise || buf.len() < BUFFER_BYTES || !log.fits(range_need(lo, hi)) {
+        return false;
+    }
+    log.append_range(disk, buf, lo, hi).is_ok()
 }
 
 // Five appends, a put or a delete each, up to the first that fails. Answers how many were done.
@@ -71,7 +81,7 @@ fn seen(found: Option<Option<&[u8]>>) -> usize {
     }
 }
 
-// What is read of a disk: how many entries, and what the table of them says of two keys.
+// What is read of a disk: how many changes, and what the table of them says of two keys.
 fn read_of(
     alloc: Global,
     disk: &mut MemDisk,
@@ -79,9 +89,9 @@ fn read_of(
     other: &[u8],
 ) -> Result<(usize, usize, usize), Fail> {
     match Log::replay(alloc, disk, 0) {
-        Ok((_, entries)) => {
-            let count = entries.len();
-            let table = boxed(alloc, MemTable::fill(entries)?)?;
+        Ok((_, changes)) => {
+            let count = changes.len();
+            let table = boxed(alloc, MemTable::fill(changes)?)?;
             Ok((count, seen(table.get(one)), seen(table.get(other))))
         }
         Err(_) => Err(Fail::from("no log")),
@@ -163,7 +173,7 @@ fn three_puts(disk: &mut MemDisk, buf: &mut [u8]) {
 
 // Another put, after the log was read again.
 fn put_again(alloc: Global, disk: &mut MemDisk, buf: &mut [u8]) -> bool {
-    let Ok((mut log, _entries)) = Log::replay(alloc, disk, 0) else {
+    let Ok((mut log, _changes)) = Log::replay(alloc, disk, 0) else {
         return false;
     };
     put(&mut log, disk, buf, b"top", b"44")
@@ -182,12 +192,12 @@ fn a_gate_left_as_07_is_closed(rt: HostRuntime) -> Result<(), Fail> {
     Ok(())
 }
 
-// The entries of the log of area 0, written into area 1 and read there: how many.
+// The changes of the log of area 0, written into area 1 and read there: how many.
 fn moved(alloc: Global, disk: &mut MemDisk, buf: &mut [u8]) -> Result<usize, Fail> {
-    let Ok((_log, entries)) = Log::replay(alloc, disk, 0) else {
+    let Ok((_log, changes)) = Log::replay(alloc, disk, 0) else {
         return Err(Fail::from("no log"));
     };
-    if buf.len() < BUFFER_BYTES || Log::rewrite(disk, 1, buf, &entries).is_err() {
+    if buf.len() < BUFFER_BYTES || Log::rewrite(disk, 1, buf, &changes).is_err() {
         return Err(Fail::from("no copy"));
     }
     match Log::replay(alloc, disk, 1) {
@@ -197,7 +207,7 @@ fn moved(alloc: Global, disk: &mut MemDisk, buf: &mut [u8]) -> Result<usize, Fai
 }
 
 #[test]
-fn entries_move_to_the_other_area(rt: HostRuntime) -> Result<(), Fail> {
+fn changes_move_to_the_other_area(rt: HostRuntime) -> Result<(), Fail> {
     let alloc = rt.alloc();
     let mut buf = vec![in alloc; 0; BUFFER_BYTES]?;
     let mut disk = new_disk(alloc)?;
@@ -247,7 +257,7 @@ fn a_fault_names_the_byte_of_the_device(rt: HostRuntime) -> Result<(), Fail> {
     let alloc = rt.alloc();
     let mut disk = new_disk(alloc)?;
     assert!(rt;
-        disk.write(LOG_BYTES as u64, &[1, 3, 1, 0, 0, 0, 0, 0, 107])
+        disk.write(LOG_BYTES as u64, &[1, 4, 1, 0, 0, 0, 0, 0, 107])
             .is_ok()
     );
     assert!(rt;
@@ -294,20 +304,21 @@ fn a_read_that_fails_is_named(rt: HostRuntime) -> Result<(), Fail> {
     Ok(())
 }
 
-// A put of the value 62 at the key 61, and a delete of it.
-fn put_and_delete(disk: &mut MemDisk, buf: &mut [u8]) {
+// A put of the value 62 at the key 61, a range from 61 to 63, and a delete of 61.
+fn put_range_and_delete(disk: &mut MemDisk, buf: &mut [u8]) {
     if let Ok(mut log) = Log::start(disk, 0) {
         put(&mut log, disk, buf, b"a", b"b");
+        clear(&mut log, disk, buf, b"a", b"c");
         delete(&mut log, disk, buf, b"a");
     }
 }
 
-// Both, and then the first bytes of area 0.
-fn bytes_of_two_records(alloc: Global) -> Result<[u8; 20], Fail> {
+// All three, and then the first bytes of area 0.
+fn bytes_of_three_records(alloc: Global) -> Result<[u8; 30], Fail> {
     let mut buf = vec![in alloc; 0; BUFFER_BYTES]?;
     let mut disk = new_disk(alloc)?;
-    put_and_delete(&mut disk, &mut buf);
-    let mut bytes = [9; 20];
+    put_range_and_delete(&mut disk, &mut buf);
+    let mut bytes = [9; 30];
     match disk.read(LOG_BYTES as u64, &mut bytes) {
         Ok(()) => Ok(bytes),
         Err(_) => Err(Fail::from("no bytes")),
@@ -315,11 +326,12 @@ fn bytes_of_two_records(alloc: Global) -> Result<[u8; 20], Fail> {
 }
 
 #[test]
-fn the_bytes_of_a_put_and_a_delete(rt: HostRuntime) -> Result<(), Fail> {
+fn the_bytes_of_a_put_a_range_and_a_delete(rt: HostRuntime) -> Result<(), Fail> {
     assert_eq!(rt;
-        bytes_of_two_records(rt.alloc())?,
+        bytes_of_three_records(rt.alloc())?,
         [
             1, 1, 1, 0, 1, 0, 0, 0, 0x61, 0x62, //
+            1, 3, 1, 0, 1, 0, 0, 0, 0x61, 0x63, //
             1, 2, 1, 0, 0, 0, 0, 0, 0x61, 0
         ]
     );

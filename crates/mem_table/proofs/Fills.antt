@@ -5,12 +5,11 @@ use Rattle.std.specs.Prelude.{Option, Some, None, bytes_eq, filter, ◌&&◌}
 use Rattle.std.specs.List.{AllByRecursion, swap, range_with_len}
 use Rattle.std.specs.List.Sorted.{IsStableBy, ties}
 use Rattle.std.specs.Ordering.{is_lt}
-use Rattle.std.proofs.lemmas.List.{append-nil, length-set, length-take-le, take_more, drop_more, take-set-le, drop-set-lt, get_or-set_same, get_or-set_other, get_or-take, get_or-drop, drop-drop}
+use Rattle.std.proofs.lemmas.List.{append-nil, length-set, length-take-le, take_more, take-set-le, drop-set-lt, get_or-take, get_or-drop, drop-drop}
 use Rattle.std.proofs.lemmas.List.Edits.{swap_is, length-swap}
 use Rattle.std.proofs.lemmas.List.FromFn.{length-range_with_len, fill_by_all}
 use Rattle.std.proofs.lemmas.Bool.{cases_lt}
 use Rattle.arrayvec.specs.ArrayVec.{ArrayVec}
-use Rattle.std.proofs.lemmas.Slice.Eq.{bytes_eq-Decides}
 use Rattle.std.proofs.Math.Seq.{take-suc-set, get_or-append_seam}
 use Rattle.std.specs.Cmp.Lexicographic.{nat_list_cmp_total}
 use Rattle.std.specs.declared.cmp.Ordering.{Ordering}
@@ -243,6 +242,6 @@ pub row_orders : (entries : List Entry) (chunks : List (ArrayVec ℕ)) → flat 
 row_orders entries chunks is some rises = record {
   rises = subst KeysRise (sym (row_shows entries chunks is)) rises;
   within = subst (λ (ps : List ℕ). AllByRecursion (λ p. p < length entries) ps) (sym is) (row_within (length entries) 0 (length entries) (omega arith));
-  all = ap (λ (ps : List ℕ). length ps) is ∙ length-range_with_len 0 (length entries);
+  few = omega (arith, ap (λ (ps : List ℕ). length ps) is, length-range_with_len 0 (length entries));
   some = some;
 }

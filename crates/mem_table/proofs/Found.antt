@@ -1,8 +1,6 @@
 -- What a search in two steps says: first among the chunks, then within one.
-use Rattle.std.proofs.Common.{◌≡◌, ℕ, zero, suc, ◌+◌, ◌-◌, ◌<◌, ◌≤◌, List, [], ◌∷◌, ◌++◌, length, map, get_or, refl, sym, ap, ◌∙◌, subst, arith, inl, inr}
-use Rattle.std.specs.Prelude.{Result, Ok, Err}
-use Rattle.std.specs.List.{AllWithin, HoldsAt}
-use Rattle.std.specs.List.Sorted.{IsBinarySearchResult, IsNonDecreasingBy, IsPartitionPoint}
+use Rattle.std.proofs.Common.{◌≡◌, ℕ, suc, ◌+◌, ◌-◌, ◌<◌, ◌≤◌, List, [], ◌∷◌, length, get_or, refl, sym, ap, ◌∙◌, subst, arith, inl, inr}
+use Rattle.std.specs.List.Sorted.{IsNonDecreasingBy, IsPartitionPoint}
 use Rattle.std.proofs.lemmas.Bool.{cases_lt}
 use Rattle.std.proofs.lemmas.List.{get_or-map, get_or_default, length-map}
 use Rattle.std.specs.Ordering.{ordering_index}
@@ -14,7 +12,7 @@ use Rattle.entry_model.specs.Entries.{Entry}
 use Rattle.map_model.proofs.Maps.{less_of_greater}
 use Rattle.mem_table.specs.Table.{KeyStandsAt, BelongsAt}
 use Rattle.entry_model.specs.Newest.{KeysRise}
-use Rattle.mem_table.specs.Chunks.{flat, flat_at, IsPlace, IsGap, NoneEmpty, Orders, entry_at, first_in, in_order}
+use Rattle.mem_table.specs.Chunks.{flat, flat_at, IsPlace, Orders, entry_at, first_in, in_order}
 use Rattle.mem_table.proofs.Flat.{place_in, gap_in, place_chunk, place_from, gap_from, first_place, place_is, within_at, next_at, end_at, chunks_rise}
 use Rattle.mem_table.proofs.Places.{rises_between, orders_rise, stands, belongs}
 

@@ -1,3 +1,4 @@
+pub mod Cleared
 pub mod Fills
 pub mod Flat
 pub mod Found
@@ -5,3 +6,4 @@ pub mod Ordered
 pub mod Places
 mod Examples
 pub mod Setting
+pub mod Changes

@@ -1,8 +1,8 @@
 -- Where a key's place is: the entries before it are below the key.
 use Rattle.std.proofs.Common.{◌≡◌, ℕ, zero, suc, ◌+◌, ◌-◌, ◌<◌, ◌≤◌, List, [], ◌∷◌, ◌++◌, length, take, drop, get_or, set, refl, sym, ap, ◌∙◌, subst, Bool, true, cond, not, arith, take-append-drop, get_or-take, get_or-drop, length-take-le, length-drop, inl, inr}
-use Rattle.std.specs.Prelude.{Some, None, Result, Ok, Err, IfOk, IfErr, bytes_eq, insert}
-use Rattle.std.specs.List.{AllWithin, AllByRecursion, HoldsAt}
-use Rattle.std.specs.List.Sorted.{IsNonDecreasingBy, IsBinarySearchResult, IsSearchInRange}
+use Rattle.std.specs.Prelude.{Some, None, bytes_eq, insert}
+use Rattle.std.specs.List.{AllByRecursion, HoldsAt}
+use Rattle.std.specs.List.Sorted.{IsNonDecreasingBy}
 use Rattle.std.proofs.lemmas.Bool.{cases_lt}
 use Rattle.std.proofs.lemmas.List.{set_split, drop_more}
 use Rattle.std.proofs.lemmas.List.Elements.{recursion_from_All}
@@ -12,7 +12,7 @@ use Rattle.std.specs.declared.cmp.Ordering.{Ordering}
 use Rattle.std.specs.declared.cmp.Ordering.TheVariants.{Less, Equal, Greater}
 use Rattle.map_model.specs.SortedMap.{Bytes, byte_order, in_place}
 use Rattle.entry_model.specs.Entries.{Entry}
-use Rattle.map_model.proofs.Maps.{same_key, order_same, equal_keys, less_of_greater}
+use Rattle.map_model.proofs.Maps.{same_key, order_same, equal_keys}
 use Rattle.mem_table.specs.Table.{KeyStandsAt, BelongsAt}
 use Rattle.entry_model.specs.Newest.{ComesBefore, ComesBehind, KeysRise, with_entry, lookup, entries_from}
 use Rattle.entry_model.proofs.Newest.{greater_of_less, below_apart, none_above}

@@ -1,6 +1,6 @@
 -- A new entry in a table: in the place of an older one, or behind all with its place put into the order.
-use Rattle.std.proofs.Common.{◌≡◌, ℕ, ◌+◌, ◌<◌, ◌≤◌, List, [], ◌∷◌, ◌++◌, length, get_or, set, length-set, refl, sym, ap, ◌∙◌, subst, arith}
-use Rattle.std.specs.Prelude.{Option, Some, None, insert}
+use Rattle.std.proofs.Common.{◌≡◌, ℕ, ◌<◌, ◌≤◌, List, [], ◌∷◌, ◌++◌, length, get_or, set, length-set, sym, ap, ◌∙◌, subst, arith}
+use Rattle.std.specs.Prelude.{Some, None, insert}
 use Rattle.std.specs.List.{AllByRecursion}
 use Rattle.std.proofs.lemmas.List.{get_or-map, get_or_default, length-append}
 use Rattle.std.proofs.lemmas.List.Edits.{length-insert}
@@ -35,7 +35,7 @@ module _ (entries : List Entry) (chunks : List (ArrayVec ℕ)) (orders : Orders 
     set_orders = record {
       rises = subst KeysRise (sym set_shows) (rises_with (in_order entries (flat chunks)) entry orders.rises);
       within = within_more entries (set entries place entry) (flat chunks) (omega (arith, length-set entries place entry)) orders.within;
-      all = orders.all ∙ sym (length-set entries place entry);
+      few = omega (arith, orders.few, length-set entries place entry);
       some = orders.some;
     }
 
@@ -53,6 +53,6 @@ module _ (entries : List Entry) (chunks : List (ArrayVec ℕ)) (orders : Orders 
           rises = subst KeysRise (sym put_shows) (rises_with (in_order entries (flat chunks)) entry orders.rises);
           within = subst (λ (ps : List ℕ). AllByRecursion (λ p. p < length (entries ++ entry ∷ [])) ps) (sym placed)
               (within_insert (entries ++ entry ∷ []) (flat chunks) at (length entries) (omega (arith, size)) (within_more entries (entries ++ entry ∷ []) (flat chunks) (omega (arith, size)) orders.within));
-          all = omega (arith, ap (λ (ps : List ℕ). length ps) placed, length-insert (flat chunks) at (length entries) le, orders.all, size);
+          few = omega (arith, ap (λ (ps : List ℕ). length ps) placed, length-insert (flat chunks) at (length entries) le, orders.few, size);
           some = some;
         }

@@ -1,9 +1,10 @@
 -- An order of places, in chunks.
-use Rattle.std.specs.Prelude.{◌≡◌, ℕ, zero, suc, ◌+◌, ◌<◌, ◌≤◌, ◌-◌, min, length, map, slice_index, slice_index_or, List, [], ◌∷◌, ◌++◌, None}
+use Rattle.std.specs.Prelude.{ℕ, zero, suc, ◌+◌, ◌<◌, ◌≤◌, ◌-◌, min, length, map, slice_index, slice_index_or, List, [], ◌∷◌, ◌++◌, None, filter, not}
 use Rattle.std.specs.List.{AllByRecursion}
 use Rattle.arrayvec.specs.ArrayVec.{ArrayVec}
 use Rattle.entry_model.specs.Entries.{Entry, entry_of}
 use Rattle.entry_model.specs.Newest.{KeysRise}
+use Rattle.range_model.specs.Ranges.{DeletedRange, is_covered}
 
 -- the places of all chunks, one after the other
 abbrev pub flat : List (ArrayVec ℕ) → List ℕ
@@ -43,11 +44,15 @@ first_in entries chunk = entry_at entries (slice_index chunk.items 0)
 abbrev pub in_order : List Entry → List ℕ → List Entry
 in_order entries places = map (entry_at entries) places
 
--- the chunks order all entries by rising keys
+-- the places whose entries no range covers
+abbrev pub places_outside : List Entry → DeletedRange → List ℕ → List ℕ
+places_outside entries range places = filter (λ place. not (is_covered range (entry_at entries place).key)) places
+
+-- the chunks order entries by rising keys: all of them, but for those that a range took out
 pub record Orders (chunks : List (ArrayVec ℕ)) (entries : List Entry) : Type 0 where
   pub rises : KeysRise (in_order entries (flat chunks))
   pub within : AllByRecursion (λ place. place < length entries) (flat chunks)
-  pub all : length (flat chunks) ≡ length entries
+  pub few : length (flat chunks) ≤ length entries
   pub some : NoneEmpty chunks
 
 -- how many entries more have surely room: each takes a place of 32 bits and at most one chunk

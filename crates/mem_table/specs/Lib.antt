@@ -1,5 +1,9 @@
 pub use Rattle.entry_model.specs.Entries
 pub use Rattle.entry_model.specs.Newest
+pub use Rattle.range_model.specs.Ranges
+pub use Rattle.range_model.specs.Sources
+pub use Rattle.range_tombs.specs.Lists
 pub mod Chunks
 pub mod Filling
 pub mod Table
+pub mod Changes

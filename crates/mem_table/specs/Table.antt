@@ -4,11 +4,18 @@ use Rattle.std.specs.List.{AllByRecursion, HoldsAt}
 use Rattle.map_model.specs.SortedMap.{Bytes}
 use Rattle.entry_model.specs.Entries.{Entry}
 use Rattle.entry_model.specs.Newest.{ComesBefore, ComesBehind}
+use Rattle.range_model.specs.Ranges.{DeletedRange}
+use Rattle.range_model.specs.Sources.{Source}
 
--- its entries, and for how many more it has room
+-- its entries and its ranges, and for how many more of each it has room
 pub record MemoryTable : Type 0 where
   pub entries : List Entry
+  pub ranges : List DeletedRange
   pub spare : ℕ
+  pub range_spare : ℕ
+
+abbrev pub source_in : MemoryTable → Source
+source_in t = record { entries = t.entries; ranges = t.ranges }
 
 -- the entry of the key stands at this place, behind those of lesser keys
 pub record KeyStandsAt (at : ℕ) (key : Bytes) (entries : List Entry) : Type 0 where

@@ -1,5 +1,5 @@
 //! The order of places, in chunks: a place goes between two others by moving those of one chunk.
-ghost use Rattle.std.specs.Prelude.{◌≡◌, ◌+◌, ◌<◌, ◌≤◌, [], ◌∷◌, ◌++◌, length, drop, vec_len, vec_capacity, slice_index};
+ghost use Rattle.std.specs.Prelude.{◌≡◌, ◌+◌, ◌<◌, ◌≤◌, ◌^◌, [], ◌∷◌, ◌++◌, length, drop, vec_len, vec_capacity, slice_index};
 ghost use Rattle.std.specs.List.{insert};
 ghost use Rattle.arrayvec.specs.ArrayVec.{array_vec_len};
 ghost use Rattle.mem_table.specs.Chunks.{flat, flat_at, IsPlace, IsGap, NoneEmpty};
@@ -27,6 +27,18 @@ pub(crate) fn place_at(chunks: &[Chunk], spot: Spot) -> u32
     ensures { result ≡ slice_index (flat chunks.now) (flat_at chunks.now spot.chunk spot.within) }
 {
     chunks[spot.chunk].as_slice()[spot.within]
+}
+
+/// How many places there are.
+pub(crate) fn count_of(chunks: &[Chunk]) -> usize
+    requires { length (flat chunks.now) < 2 ^ 64 }
+    ensures { result ≡ length (flat chunks.now) }
+{
+    let mut count = 0;
+    for chunk in chunks {
+        count += chunk.len();
+    }
+    count
 }
 
 /// The spot behind all places.

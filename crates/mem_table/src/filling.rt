@@ -1,14 +1,40 @@
-//! The newest entries of a log, by rising keys.
+//! What a log held: the newest of its entries, by rising keys.
 ghost use Rattle.std.specs.Prelude.{◌≡◌, ◌≢◌, ◌≤◌, ◌<◌, ◌-◌, length, slice_index_or, true, false, OnOk, IfOk};
 ghost use Rattle.entry_model.specs.Entries as model;
 ghost use Rattle.std.specs.List.{range_with_len};
 ghost use Rattle.mem_table.specs.Chunks.{flat, NoneEmpty};
 ghost use Rattle.entry_model.specs.Newest.{newest_entries};
 ghost use Rattle.mem_table.specs.Filling.{DoNotFall};
+ghost use Rattle.mem_table.specs.Changes.{clears_one, entries_set};
 
 use crate::chunks::{Chunk, end_of, put};
-use entry_list::Entry;
+use entry_list::{Change, ChangeKind, Entry};
 use std::alloc::{AllocError, Global};
+
+/// Whether one of some changes clears a range.
+pub(crate) fn clears_one(changes: &[Change]) -> bool
+    ensures { result ≡ clears_one changes.now }
+{
+    for change in changes {
+        if let ChangeKind::Clears(_) = change.kind() {
+            return true;
+        }
+    }
+    false
+}
+
+/// The entries that some changes set, in their order and moved.
+pub(crate) fn entries_set(alloc: Global, changes: Vec<Change>) -> Result<Vec<Entry>, AllocError>
+    ensures { IfOk result (λ entries. entries.items ≡ entries_set changes.items) }
+{
+    let mut entries = Vec::new(alloc);
+    for change in changes {
+        if let ChangeKind::Sets(entry) = change.into_kind() {
+            entries.push(entry)?;
+        }
+    }
+    Ok(entries)
+}
 
 /// Sorts entries by their keys, and leaves those of one key in the order in which they were.
 ///

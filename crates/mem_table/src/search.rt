@@ -10,8 +10,8 @@ use crate::chunks::{Chunk, Spot};
 use entry_list::Entry;
 use std::cmp::Ordering;
 
-// How the key of the entry at a place stands to this one.
-fn compare_at(entries: &[Entry], place: u32, key: &[u8]) -> Ordering
+/// How the key of the entry at a place stands to this one.
+pub(crate) fn compare_at(entries: &[Entry], place: u32, key: &[u8]) -> Ordering
     ensures { result ≡ byte_order (entry_at entries.now place).key key.now }
 {
     match entries.get(place as usize) {

@@ -139,10 +139,10 @@ fn put_all<T: Keeper>(
 
 // Replays what was put.
 fn starts<T: Keeper>(alloc: Global, disk: &mut FileOutside) -> Result<()> {
-    let Ok((_, entries)) = Log::replay(alloc, disk, 0) else {
+    let Ok((_, changes)) = Log::replay(alloc, disk, 0) else {
         bail!("the log cannot be read");
     };
-    T::filled(alloc, entries)?;
+    T::filled(alloc, changes)?;
     Ok(())
 }
 

@@ -1,20 +1,24 @@
 //! What keeps the newest entry of each key in memory.
+ghost use Rattle.std.specs.List.{AllByRecursion};
+ghost use Rattle.range_model.specs.Sources.{ClearsKeys};
+
 use crate::records::Records;
 use anyhow::Result;
-use entry_list::Entry;
+use entry_list::{Change, ChangeKind};
 use mem_table::MemTable;
 use real_outside::FileOutside;
 use std::alloc::{AllocError, AllocFailed, Global};
 use std::boxed::BoxedSlice;
 use std::collections::BTreeMap;
 
-/// What keeps the entries of a log.
+/// What keeps the entries that a log sets.
 pub trait Keeper: Sized + Drop {
     /// With no entry.
     fn new(alloc: Global) -> Self;
 
-    /// From the entries of a log.
-    fn filled(alloc: Global, entries: Vec<Entry>) -> Result<Self>;
+    /// From the changes of a log, which set entries.
+    fn filled(alloc: Global, changes: Vec<Change>) -> Result<Self>
+        requires { AllByRecursion ClearsKeys changes.items };
 
     /// Writes a record, and then sets it.
     fn put(
@@ -49,8 +53,8 @@ impl Keeper for Ours {
         }
     }
 
-    fn filled(_: Global, entries: Vec<Entry>) -> Result<Ours> {
-        let table = MemTable::fill(entries)?;
+    fn filled(_: Global, changes: Vec<Change>) -> Result<Ours> {
+        let table = MemTable::fill(changes)?;
         Ok(Ours { table })
     }
 
@@ -110,13 +114,15 @@ impl Keeper for Theirs {
         }
     }
 
-    fn filled(alloc: Global, entries: Vec<Entry>) -> Result<Theirs> {
+    fn filled(alloc: Global, changes: Vec<Change>) -> Result<Theirs> {
         let mut theirs = Theirs {
             map: BTreeMap::new(alloc),
         };
-        for entry in entries {
-            let (key, value) = entry.into_parts();
-            theirs.insert(key, value)?;
+        for change in changes {
+            if let ChangeKind::Sets(entry) = change.into_kind() {
+                let (key, value) = entry.into_parts();
+                theirs.insert(key, value)?;
+            }
         }
         Ok(theirs)
     }

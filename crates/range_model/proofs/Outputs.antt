@@ -7,9 +7,8 @@ use Rattle.std.proofs.lemmas.Bool.{false≢true}
 use Rattle.key_base.specs.ByteOrder.{is_before}
 use Rattle.map_model.specs.SortedMap.{Bytes}
 use Rattle.map_model.proofs.Maps.{other_key}
-use Rattle.entry_model.specs.Entries.{Entry}
+use Rattle.entry_model.specs.Entries.{Entry, first_key}
 use Rattle.entry_model.specs.Newest.{ComesBefore, lookup}
-use Rattle.block_model.specs.Pages.{first_key}
 use Rattle.range_model.specs.Ranges.{covers, ranges_from}
 use Rattle.range_model.specs.Sources.{cleared, says}
 use Rattle.range_model.specs.Outputs.{ComesFrom, all_entries}

@@ -6,8 +6,7 @@ use Rattle.std.specs.Option.{option_or}
 use Rattle.std.proofs.lemmas.Bool.{false≢true}
 use Rattle.key_base.specs.ByteOrder.{Bytes, IsBefore, is_before}
 use Rattle.map_model.proofs.Between.{before_less}
-use Rattle.block_model.specs.Pages.{first_key, last_key}
-use Rattle.entry_model.specs.Entries.{Entry}
+use Rattle.entry_model.specs.Entries.{Entry, first_key, last_key}
 use Rattle.entry_model.specs.Newest.{ComesBefore, ComesBehind, KeysRise}
 use Rattle.range_model.specs.Ranges.{DeletedRange, IsDeletedRange, RangesRise, covers, is_covered}
 use Rattle.range_model.specs.Sources.{BeginsAtOne, cleared}

@@ -7,8 +7,7 @@ use Rattle.std.proofs.lemmas.Bool.{false≢true}
 use Rattle.key_base.specs.ByteOrder.{Bytes, IsBefore, is_before}
 use Rattle.map_model.proofs.Between.{before_less}
 use Rattle.map_model.proofs.Maps.{same_key}
-use Rattle.block_model.specs.Pages.{first_key, last_key}
-use Rattle.entry_model.specs.Entries.{Entry}
+use Rattle.entry_model.specs.Entries.{Entry, first_key, last_key}
 use Rattle.entry_model.specs.Newest.{lookup}
 use Rattle.range_model.specs.Ranges.{DeletedRange, IsDeletedRange, covers, greater_key, is_covered, ranges_below, ranges_from}
 use Rattle.range_model.specs.Sources.{IsSource, Source, alone, cleared, says}

@@ -5,9 +5,8 @@ use Rattle.std.specs.List.{AllByRecursion}
 use Rattle.std.specs.Option.{option_or}
 use Rattle.key_base.specs.ByteOrder.{Bytes, is_before}
 use Rattle.map_model.proofs.Maps.{same_key}
-use Rattle.entry_model.specs.Entries.{Entry}
+use Rattle.entry_model.specs.Entries.{Entry, first_key}
 use Rattle.entry_model.specs.Newest.{ComesBefore, ComesBehind, KeysRise, lookup}
-use Rattle.block_model.specs.Pages.{first_key}
 use Rattle.range_model.specs.Ranges.{DeletedRange, greater_key, lesser_key, range_of, ranges_below, ranges_from}
 use Rattle.range_model.specs.Sources.{BeginsAtOne, IsSource, Source}
 use Rattle.range_model.specs.Outputs.{ComesFrom, HasEntries, all_entries}

@@ -4,9 +4,8 @@ use Rattle.std.specs.List.{AllByRecursion}
 use Rattle.std.specs.Option.{option_or}
 use Rattle.key_base.specs.ByteOrder.{Bytes, is_before}
 use Rattle.map_model.specs.SortedMap.{Map, get, Rises}
-use Rattle.entry_model.specs.Entries.{Entry, live}
+use Rattle.entry_model.specs.Entries.{Entry, first_key, live}
 use Rattle.entry_model.specs.Newest.{KeysRise, newest_entries, lookup}
-use Rattle.block_model.specs.Pages.{first_key}
 use Rattle.range_model.specs.Clearing.{lies_within, clear}
 use Rattle.range_model.specs.Ranges.{DeletedRange, IsDeletedRange, HasBounds, IsBound, RangesRise, is_covered, covers, with_range, ranges_below, ranges_from}
 use Rattle.range_model.specs.Sources.{Change, ClearsKeys, IsSource, Source, Sets, alone, changes_in, cleared, first_said, last_said, says, shown, source_of, with_change}

@@ -2,9 +2,8 @@
 use Rattle.std.specs.Prelude.{◌≡◌, ◌≢◌, false, List, [], ◌∷◌, flat_map}
 use Rattle.std.specs.List.{AllByRecursion}
 use Rattle.key_base.specs.ByteOrder.{Bytes, is_before}
-use Rattle.entry_model.specs.Entries.{Entry}
+use Rattle.entry_model.specs.Entries.{Entry, first_key}
 use Rattle.entry_model.specs.Newest.{ComesBefore}
-use Rattle.block_model.specs.Pages.{first_key}
 use Rattle.range_model.specs.Ranges.{DeletedRange, ranges_below, ranges_from}
 use Rattle.range_model.specs.Sources.{Source}
 

@@ -70,3 +70,9 @@ pub record IsBound (key : Bytes) : Type 0 where
 
 abbrev pub HasBounds : DeletedRange → Type 0
 HasBounds range = IsBound range.lo × IsBound range.hi
+
+-- they rise and do not touch, and their bounds are keys
+pub record AreRanges (ranges : List DeletedRange) : Type 0 where
+  pub are : AllByRecursion IsDeletedRange ranges
+  pub rise : RangesRise ranges
+  pub bounds : AllByRecursion HasBounds ranges

@@ -1,7 +1,7 @@
 -- How far up a source goes, by its entries and its ranges.
 use Rattle.std.specs.Prelude.{Bool, not, ◌&&◌, List, [], ◌∷◌}
 use Rattle.key_base.specs.ByteOrder.{Bytes, is_before}
-use Rattle.block_model.specs.Pages.{last_key}
+use Rattle.entry_model.specs.Entries.{last_key}
 use Rattle.range_model.specs.Ranges.{DeletedRange}
 use Rattle.range_model.specs.Sources.{Source}
 

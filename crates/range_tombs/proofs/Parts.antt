@@ -3,10 +3,9 @@ use Rattle.std.proofs.Common.{◌≡◌, List, [], ◌∷◌, ◌++◌, refl, tr
 use Rattle.std.specs.Prelude.{fold}
 use Rattle.std.specs.List.{AllByRecursion}
 use Rattle.key_base.specs.ByteOrder.{Bytes, is_before}
-use Rattle.range_model.specs.Ranges.{DeletedRange, HasBounds, IsBound, IsDeletedRange, ranges_below, ranges_from, with_range, range_of, lesser_key, greater_key}
+use Rattle.range_model.specs.Ranges.{AreRanges, DeletedRange, HasBounds, IsBound, IsDeletedRange, greater_key, lesser_key, range_of, ranges_below, ranges_from, with_range}
 use Rattle.range_model.proofs.RangeLaws.{are_below, are_from, bounds_below, bounds_from, bounds_with, rise_below, rise_from, rise_with}
 use Rattle.range_model.proofs.Ranges.{ranges_with}
-use Rattle.range_tombs.specs.Lists.{AreRanges}
 
 pub below_one : (range : DeletedRange) (later : List DeletedRange) (at : Bytes) → ranges_below (range ∷ []) at ++ ranges_below later at ≡ ranges_below (range ∷ later) at
 below_one range later at = elim (is_before range.lo at) as (λ t. cond t (range_of range.lo (lesser_key range.hi at) ∷ []) [] ++ ranges_below later at ≡ cond t (range_of range.lo (lesser_key range.hi at) ∷ ranges_below later at) (ranges_below later at)) [ true ↦ refl | false ↦ refl ]

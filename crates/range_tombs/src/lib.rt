@@ -2,7 +2,7 @@
 //!
 //! A range goes from its lower bound on and up to its upper one, without it. [`Ranges`] joins what meets or touches, so each
 //! key lies within one of them at most. All that an added range needs is taken before, by [`Ranges::reserve_for`], so that
-//! [`Ranges::add`] cannot fail. Nothing uses this crate yet: no command deletes a range.
+//! [`Ranges::add`] cannot fail. No command deletes a range yet.
 //!
 //! ```text
 //! let mut ranges = Ranges::new(alloc);

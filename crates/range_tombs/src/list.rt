@@ -1,9 +1,8 @@
 //! The list of ranges.
-ghost use Rattle.std.specs.Prelude.{◌≡◌, ◌≤◌, ◌<◌, ◌+◌, ◌==◌, true, false, not, [], length, fold, slice_index_or, IfOk, OnOk, OnErr};
+ghost use Rattle.std.specs.Prelude.{◌≡◌, ◌≤◌, ◌<◌, ◌+◌, ◌==◌, ◌++◌, ◌∷◌, true, false, not, [], length, fold, slice_index_or, IfOk, OnOk, OnErr};
 ghost use Rattle.std.specs.List.Sorted.{IsPartitionPoint};
 ghost use Rattle.key_base.specs.ByteOrder.{IsBefore, is_before};
-ghost use Rattle.range_model.specs.Ranges.{IsBound, covers, range_of, with_range, ranges_below, ranges_from};
-ghost use Rattle.range_tombs.specs.Lists.{AreRanges};
+ghost use Rattle.range_model.specs.Ranges.{AreRanges, IsBound, covers, range_of, with_range, ranges_below, ranges_from};
 
 use crate::adding::{add_all, add_to};
 use crate::cutting::{below, copied, from};
@@ -19,7 +18,8 @@ pub struct Ranges {
 
 impl Model for Ranges {
     ghost use Rattle.std.specs.Prelude.{◌≤◌, ◌-◌, vec_capacity, vec_len};
-    ghost use Rattle.range_tombs.specs.Lists.{RangeList, AreRanges};
+    ghost use Rattle.range_model.specs.Ranges.{AreRanges};
+    ghost use Rattle.range_tombs.specs.Lists.{RangeList};
 
     ghost Value = { RangeList };
 
@@ -107,6 +107,26 @@ impl Ranges {
         ensures room { self.old.spare ≤ self.new.spare + 1 }
     {
         add_to(&mut self.list, range.into_range());
+    }
+
+    /// Adds a range that lies above all others, with room between them. Takes memory for copies of its bounds and for its
+    /// place; where that is refused, the ranges are as they were.
+    pub fn push(&mut self, lo: &[u8], hi: &[u8]) -> Result<(), AllocError>
+        requires { AreRanges (self.old.ranges ++ range_of lo.now hi.now ∷ []) }
+        ensures added { OnOk result (self.new.ranges ≡ self.old.ranges ++ range_of lo.now hi.now ∷ []) }
+        ensures unchanged { OnErr result (self.new.ranges ≡ self.old.ranges) }
+    {
+        let range = DeletedRange::new(*self.list.allocator(), lo, hi)?;
+        self.list.push(range)?;
+        Ok(())
+    }
+
+    /// All of them, as copies.
+    pub fn copied(&self) -> Result<Ranges, AllocError>
+        ensures { IfOk result (λ ranges. ranges.ranges ≡ self.now.ranges) }
+    {
+        let list = copied(*self.list.allocator(), &self.list)?;
+        Ok(Ranges { list })
     }
 
     /// What of them lies below a key, and what lies from it on, as copies.

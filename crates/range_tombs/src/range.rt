@@ -100,6 +100,21 @@ impl PreparedRange {
         Ok(PreparedRange { range })
     }
 
+    /// The first key that lies within it.
+    pub fn lo(&self) -> &[u8]
+        ensures bound { result.now ≡ self.now.lo }
+        ensures range { IsDeletedRange self.now }
+    {
+        self.range.lo()
+    }
+
+    /// The key up to which it goes, without it.
+    pub fn hi(&self) -> &[u8]
+        ensures { result.now ≡ self.now.hi }
+    {
+        self.range.hi()
+    }
+
     // The range alone.
     pub(crate) fn into_range(self) -> DeletedRange
         ensures same { result ≡ self }

@@ -9,23 +9,23 @@ use Rattle.log_model.proofs.Appended.{Staged, stays, staged, without, opening, o
 use Rattle.gate_log.proofs.log.write_record.Goals as goal
 
 pub returns-in_err-write_through-clause-crash : goal.returns-in_err-write_through-clause-crash
-returns-in_err-write_through-clause-crash g c area entries entry tells next =
+returns-in_err-write_through-clause-crash g c area changes change tells next =
     let gate = c.args.gate in let bytes = c.args.bytes.now in
-    leads_stop {T = Unit {0}} (LogIs area entries) (LogIs area entries) (Staged area entries entry) (WithOrWithout area entries entry) (LogIs area (entries ++ entry ∷ [])) _ c.from_residual.result _ _ (λ f log. inl log) c.from_residual.ensures.0
-    (through (LogIs area entries) (LogIs area entries) (Staged area entries entry) (gate + 1) bytes (Err c.in_err-write_through.field-0.0) _ _
+    leads_stop {T = Unit {0}} (LogIs area changes) (LogIs area changes) (Staged area changes change) (WithOrWithout area changes change) (LogIs area (changes ++ change ∷ [])) _ c.from_residual.result _ _ (λ f log. inl log) c.from_residual.ensures.0
+    (through (LogIs area changes) (LogIs area changes) (Staged area changes change) (gate + 1) bytes (Err c.in_err-write_through.field-0.0) _ _
     (g.met.D.Disk.current c.args.disk.now tells) c.in_err-write_through.ensures.moves (c.in_err-write_through.ensures.written tells) c.in_err-write_through.ensures.durable
-    (λ f log. log) (stays area entries entry bytes next.bytes_are gate next.here) (staged area entries entry bytes next.bytes_are gate next.here))
+    (λ f log. log) (stays area changes change bytes next.bytes_are gate next.here) (staged area changes change bytes next.bytes_are gate next.here))
 
 pub returns-clause-crash : goal.returns-clause-crash
-returns-clause-crash g c area entries entry tells next =
+returns-clause-crash g c area changes change tells next =
     let gate = c.args.gate in let bytes = c.args.bytes.now in
-    leads_then {E = DiskFault} (LogIs area entries) (LogIs area entries) (Staged area entries entry) (WithOrWithout area entries entry) (LogIs area (entries ++ entry ∷ [])) _ c.write_through-2.result _ _ _ (λ f log. inl log)
-    (through (LogIs area entries) (LogIs area entries) (Staged area entries entry) (gate + 1) bytes (Ok c.in_ok-write_through.field-0) _ _
+    leads_then {E = DiskFault} (LogIs area changes) (LogIs area changes) (Staged area changes change) (WithOrWithout area changes change) (LogIs area (changes ++ change ∷ [])) _ c.write_through-2.result _ _ _ (λ f log. inl log)
+    (through (LogIs area changes) (LogIs area changes) (Staged area changes change) (gate + 1) bytes (Ok c.in_ok-write_through.field-0) _ _
     (g.met.D.Disk.current c.args.disk.now tells) c.in_ok-write_through.ensures.moves (c.in_ok-write_through.ensures.written tells) c.in_ok-write_through.ensures.durable
-    (λ f log. log) (stays area entries entry bytes next.bytes_are gate next.here) (staged area entries entry bytes next.bytes_are gate next.here))
-    (through (Staged area entries entry) (WithOrWithout area entries entry) (LogIs area (entries ++ entry ∷ [])) gate (1 ∷ []) c.write_through-2.result _ _
+    (λ f log. log) (stays area changes change bytes next.bytes_are gate next.here) (staged area changes change bytes next.bytes_are gate next.here))
+    (through (Staged area changes change) (WithOrWithout area changes change) (LogIs area (changes ++ change ∷ [])) gate (1 ∷ []) c.write_through-2.result _ _
     (g.met.D.Disk.current _ tells) c.write_through-2.ensures.moves (c.write_through-2.ensures.written tells) c.write_through-2.ensures.durable
-    (without area entries entry bytes next.bytes_are gate next.here) (opening area entries entry bytes next.bytes_are gate next.here next.sound next.room) (opened area entries entry bytes next.bytes_are gate next.here next.sound next.room))
+    (without area changes change bytes next.bytes_are gate next.here) (opening area changes change bytes next.bytes_are gate next.here next.sound next.room) (opened area changes change bytes next.bytes_are gate next.here next.sound next.room))
 
 pub returns-clause-held : goal.returns-clause-held
 returns-clause-held g c tells =

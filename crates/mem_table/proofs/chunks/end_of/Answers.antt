@@ -1,6 +1,6 @@
-use Rattle.std.proofs.Common.{rules, ◌≡◌, ◌-◌, ◌+◌, ◌<◌, ◌≤◌, ◌∙◌, suc, ℕ, List, length, get_or, sym, ap, arith}
+use Rattle.std.proofs.Common.{rules, ◌≡◌, ◌-◌, ◌∙◌, ℕ, length, get_or, ap, arith}
 use Rattle.arrayvec.specs.ArrayVec.{ArrayVec, array_vec_len}
-use Rattle.mem_table.specs.Chunks.{flat, flat_at, IsGap}
+use Rattle.mem_table.specs.Chunks.{flat_at}
 use Rattle.mem_table.proofs.Flat.{gap_from, end_behind}
 use Rattle.mem_table.proofs.chunks.end_of.Goals as goal
 

@@ -1,4 +1,4 @@
-use Rattle.std.proofs.Common.{rules, ◌≡◌, ◌+◌, ◌<◌, ◌≤◌, ◌∙◌, suc, sym, ap, arith, length, set, ℕ, List, get_or}
+use Rattle.std.proofs.Common.{◌≡◌, ◌+◌, ◌<◌, ◌≤◌, ◌∙◌, suc, sym, ap, arith, length, set, ℕ, List, get_or}
 use Rattle.std.specs.Prelude.{insert}
 use Rattle.std.proofs.lemmas.List.{get_or_default}
 use Rattle.arrayvec.specs.ArrayVec.{ArrayVec, array_vec_len}

@@ -1,4 +1,4 @@
-use Rattle.std.proofs.Common.{rules, ◌≡◌, ◌<◌, ◌≤◌, ◌+◌, ◌-◌, ◌++◌, ◌∙◌, [], take, suc, sym, ap, arith, length, drop, get_or, ℕ, List}
+use Rattle.std.proofs.Common.{rules, ◌≡◌, ◌<◌, ◌≤◌, ◌+◌, ◌-◌, ◌++◌, ◌∙◌, take, suc, sym, ap, arith, length, drop, get_or, ℕ, List}
 use Rattle.std.proofs.lemmas.List.{take_rest, drop_all}
 use Rattle.arrayvec.specs.ArrayVec.{ArrayVec}
 use Rattle.mem_table.specs.Chunks.{flat, flat_at, IsGap}

@@ -2,7 +2,6 @@ use Rattle.std.proofs.Common.{◌≡◌, ◌+◌, ◌∙◌, [], ◌∷◌, ◌+
 use Rattle.std.specs.Prelude.{insert}
 use Rattle.std.specs.List.{range_with_len}
 use Rattle.std.proofs.lemmas.List.Edits.{insert_end}
-use Rattle.arrayvec.specs.ArrayVec.{ArrayVec}
 use Rattle.mem_table.specs.Chunks.{flat, flat_at, NoneEmpty}
 use Rattle.mem_table.proofs.filling.in_a_row.Goals as goal
 

@@ -1,7 +1,7 @@
-use Rattle.std.proofs.Common.{◌≡◌, ◌≢◌, ◌+◌, ◌-◌, ◌<◌, get_or, ◌∙◌, [], ◌∷◌, ℕ, List, length, sym, ap, subst, arith}
+use Rattle.std.proofs.Common.{◌≡◌, ◌≢◌, ◌-◌, ◌<◌, get_or, [], length, arith}
 use Rattle.std.specs.Prelude.{None}
 use Rattle.entry_model.specs.Entries.{entry_of}
-use Rattle.mem_table.proofs.Fills.{Kept, kept_same, kept_other}
+use Rattle.mem_table.proofs.Fills.{kept_same, kept_other}
 use Rattle.mem_table.proofs.filling.keep_last.Goals as goal
 use Rattle.mem_table.proofs.filling.keep_last.Goals.{then-repeats, else-repeats}
 

@@ -1,11 +1,10 @@
-use Rattle.std.proofs.Common.{◌≡◌, ◌-◌, ◌+◌, ◌<◌, ◌≤◌, ℕ, [], List, length, get_or, arith, subst, sym, ap}
+use Rattle.std.proofs.Common.{◌≡◌, ◌-◌, ◌<◌, ◌≤◌, ℕ, [], List, length, get_or, arith, subst, sym, ap}
 use Rattle.std.specs.List.Sorted.{IsPartitionPoint, IsNonDecreasingBy}
 use Rattle.std.specs.Ordering.{ordering_index}
 use Rattle.std.specs.declared.cmp.Ordering.TheVariants.{Less, Equal, Greater}
 use Rattle.arrayvec.specs.ArrayVec.{ArrayVec}
-use Rattle.map_model.specs.SortedMap.{Bytes, byte_order}
+use Rattle.map_model.specs.SortedMap.{byte_order}
 use Rattle.mem_table.specs.Chunks.{entry_at, first_in}
-use Rattle.mem_table.specs.Table.{BelongsAt}
 use Rattle.mem_table.proofs.Flat.{first_place, first_gap, place_from, gap_from}
 use Rattle.mem_table.proofs.Found.{chunks_ordered, within_ordered, found_at, missing_first, missing_within}
 use Rattle.mem_table.proofs.search.spot_of.Goals as goal

@@ -1,21 +1,13 @@
-use Rattle.std.proofs.Common.{rules, ◌≡◌, ◌∙◌, [], ℕ, List, length, sym, ap, subst}
-use Rattle.std.specs.List.{range_with_len}
+use Rattle.std.proofs.Common.{◌≡◌, ◌∙◌, List, false, sym, ap}
+use Rattle.std.proofs.lemmas.Result.{IfOk-weaker}
 use Rattle.entry_model.specs.Entries.{Entry}
-use Rattle.mem_table.specs.Chunks.{flat}
-use Rattle.entry_model.specs.Newest.{KeysRise, newest_entries}
-use Rattle.entry_model.proofs.Newest.{rises_after}
-use Rattle.mem_table.proofs.Fills.{row_shows, row_orders}
+use Rattle.entry_model.specs.Newest.{newest_entries}
+use Rattle.range_model.specs.Sources.{alone}
+use Rattle.mem_table.specs.Changes.{clears_one}
+use Rattle.mem_table.proofs.Changes.{source_sorted}
 use Rattle.mem_table.proofs.table.MemTable.fill.Goals as goal
-
-pub invariant_of-result : goal.invariant_of-result
-invariant_of-result c =
-    let entries = c.keep_last.new.entries.items in
-    let size : c.len-2.result ≡ length entries = search rules in
-    let row : flat c.in_ok-chunks.chunks.items ≡ range_with_len 0 (length entries) = c.in_ok-chunks.ensures.places ∙ ap (range_with_len 0) size in
-    (row_orders entries c.in_ok-chunks.chunks.items row c.in_ok-chunks.ensures.some (subst KeysRise (sym c.keep_last.ensures) (rises_after [] c.sort.new.entries.items tt)), search rules, search rules)
 
 pub returns : goal.returns
 returns c =
-    let entries = c.keep_last.new.entries.items in
-    let size : c.len-2.result ≡ length entries = search rules in
-    row_shows entries c.in_ok-chunks.chunks.items (c.in_ok-chunks.ensures.places ∙ ap (range_with_len 0) size) ∙ c.keep_last.ensures ∙ c.in_ok-sort.ensures.newest
+    let none : clears_one c.args.changes.items ≡ false = sym (c.clears_one.ensures ∙ ap clears_one c.deref.ensures.value) ∙ c.if-clears_one.false in
+    IfOk-weaker c.sorted.result _ _ (λ t is. is ∙ ap (λ (es : List Entry). alone (newest_entries es)) c.in_ok-entries_set.ensures ∙ source_sorted c.args.changes.items none) c.sorted.ensures

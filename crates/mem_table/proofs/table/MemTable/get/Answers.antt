@@ -1,8 +1,6 @@
-use Rattle.std.proofs.Common.{◌≡◌, ◌∙◌, ◌<◌, List, ℕ, sym, ap, length}
+use Rattle.std.proofs.Common.{◌∙◌, sym, ap}
 use Rattle.std.specs.Prelude.{Option, Some}
-use Rattle.arrayvec.specs.ArrayVec.{ArrayVec}
 use Rattle.map_model.specs.SortedMap.{Bytes}
-use Rattle.entry_model.specs.Entries.{Entry}
 use Rattle.mem_table.specs.Table.{MemoryTable, KeyStandsAt, BelongsAt}
 use Rattle.entry_model.specs.Newest.{lookup}
 use Rattle.mem_table.specs.Chunks.{flat, flat_at, in_order, IsPlace}

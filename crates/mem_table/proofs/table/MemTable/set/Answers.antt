@@ -1,4 +1,4 @@
-use Rattle.std.proofs.Common.{rules, ◌≡◌, ◌∙◌, ◌<◌, ◌≤◌, ◌++◌, ◌∷◌, [], List, ℕ, sym, ap, length, get_or, set, arith, subst}
+use Rattle.std.proofs.Common.{rules, ◌≡◌, ◌∙◌, ◌++◌, ◌∷◌, [], List, ℕ, sym, ap, length, get_or, set, subst}
 use Rattle.std.specs.Prelude.{insert}
 use Rattle.arrayvec.specs.ArrayVec.{ArrayVec}
 use Rattle.map_model.specs.SortedMap.{Bytes}

@@ -1,5 +1,5 @@
 use Rattle.std.proofs.Common.{sym, subst}
-use Rattle.range_tombs.specs.Lists.{AreRanges}
+use Rattle.range_model.specs.Ranges.{AreRanges}
 use Rattle.range_tombs.proofs.Parts.{kept_with}
 use Rattle.range_tombs.proofs.list.Ranges.add.Goals as goal
 

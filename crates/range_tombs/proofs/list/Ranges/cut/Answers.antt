@@ -1,6 +1,5 @@
 use Rattle.std.proofs.Common.{List, sym, subst, ap, ◌∙◌}
-use Rattle.range_model.specs.Ranges.{DeletedRange, ranges_below, ranges_from}
-use Rattle.range_tombs.specs.Lists.{AreRanges}
+use Rattle.range_model.specs.Ranges.{AreRanges, DeletedRange, ranges_below, ranges_from}
 use Rattle.range_tombs.proofs.Parts.{kept_below, kept_from}
 use Rattle.range_tombs.proofs.list.Ranges.cut.Goals as goal
 

@@ -1,6 +1,5 @@
 use Rattle.std.proofs.Common.{List, fold, sym, subst, ap, ◌∙◌}
-use Rattle.range_model.specs.Ranges.{DeletedRange, with_range}
-use Rattle.range_tombs.specs.Lists.{AreRanges}
+use Rattle.range_model.specs.Ranges.{AreRanges, DeletedRange, with_range}
 use Rattle.range_tombs.proofs.Parts.{kept_all}
 use Rattle.range_tombs.proofs.list.Ranges.join.Goals as goal
 
