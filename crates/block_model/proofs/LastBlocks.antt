@@ -8,7 +8,7 @@ use Rattle.entry_model.specs.Entries.{Entry, IsEntry}
 use Rattle.byte_fields.specs.Fields.{fields}
 use Rattle.map_model.specs.SortedMap.{Bytes}
 use Rattle.block_model.specs.Block.{AreEntries}
-use Rattle.block_model.specs.Index.{index_bytes, index_head_bytes, index_head_widths, index_magic, index_of, index_row_bytes, index_row_of}
+use Rattle.block_model.specs.Index.{index_bytes, index_head_bytes, index_head_widths, index_magic, index_of, index_row_bytes, index_row_of, index_with, ranges_bytes}
 use Rattle.block_model.specs.Pages.{blocks_of, blocks_with, first_key, has_room, last_has_room, last_key}
 use Rattle.block_model.proofs.Cutting.{IsPart, blocks_are_parts, blocks_step}
 use Rattle.block_model.proofs.Sizes.{all_at}
@@ -117,7 +117,7 @@ all_done F empty xs i out all le so_far =
 
 pub index_head_is : (entries : List Entry) (many : ℕ) (least : Bytes) → many ≡ length (blocks_of entries) → least ≡ first_key entries
     → fields index_head_widths (index_magic ∷ many ∷ length least ∷ []) ++ least ≡ index_head_bytes (index_of entries)
-unfolding index_head_bytes index_of
+unfolding index_head_bytes index_with
 index_head_is entries many least n k =
     let rows : many ≡ length (map index_row_of (blocks_of entries)) = n ∙ sym (length-map (blocks_of entries) index_row_of) in
     ap₂ (λ (m : ℕ) (l : Bytes). fields index_head_widths (index_magic ∷ m ∷ length l ∷ []) ++ l) rows k
@@ -127,5 +127,6 @@ index_rows_are [] = refl
 index_rows_are (block ∷ more) = ap (λ (l : Bytes). index_row_bytes (index_row_of block) ++ l) (index_rows_are more)
 
 pub index_is : (entries : List Entry) → index_head_bytes (index_of entries) ++ flat_map (λ (b : List Entry). index_row_bytes (index_row_of b)) (blocks_of entries) ≡ index_bytes (index_of entries)
-unfolding index_bytes index_of
-index_is entries = ap (λ (l : Bytes). index_head_bytes (index_of entries) ++ l) (index_rows_are (blocks_of entries))
+unfolding index_bytes index_with ranges_bytes
+index_is entries =
+    ap (λ (l : Bytes). index_head_bytes (index_of entries) ++ l) (index_rows_are (blocks_of entries) ∙ sym (append-nil (flat_map index_row_bytes (map index_row_of (blocks_of entries)))))

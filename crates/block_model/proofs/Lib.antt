@@ -17,5 +17,6 @@ pub mod EitherFormat
 pub mod EntriesJudged
 pub mod ListedEntries
 pub mod RowsRead
+pub mod RangesRead
 pub mod IndexesRead
 pub mod TableIndex

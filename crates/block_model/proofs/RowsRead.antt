@@ -1,15 +1,16 @@
 -- The rows of an index are read as they were written, and were written as they are read.
-use Rattle.std.proofs.Common.{◌≡◌, ◌≤◌, ◌+◌, ℕ, zero, suc, Bool, true, List, [], ◌∷◌, ◌++◌, length, take, drop, refl, sym, ap, ap₂, ◌∙◌, arith, length-append, length-drop}
-use Rattle.std.specs.Prelude.{None, nat_lt, map, flat_map}
+use Rattle.std.proofs.Common.{◌≡◌, ◌≤◌, ◌+◌, ℕ, zero, suc, Bool, true, List, [], ◌∷◌, ◌++◌, length, take, drop, refl, sym, ap, ap₂, ◌∙◌, arith, append_assoc, length-append, length-drop}
+use Rattle.std.specs.Prelude.{None, map, flat_map}
 use Rattle.std.specs.List.{AllByRecursion}
 use Rattle.std.proofs.lemmas.Bool.{ltb-false, le-ltb, or_from, or_parts}
-use Rattle.std.proofs.lemmas.List.{drop_at, length-take, nil_from_length, take-append-drop, take_at}
+use Rattle.std.proofs.lemmas.List.{drop_at, length-take, take_at}
+use Rattle.std.proofs.Math.Seq.{take-add}
 use Rattle.byteorder.specs.Endian.{little_bytes}
 use Rattle.byte_fields.specs.Spelling.{IsBytes}
 use Rattle.byte_fields.proofs.NumberLemmas.{IsBytes-drop, number_again, number_back, number_below}
 use Rattle.map_model.specs.SortedMap.{Bytes}
 use Rattle.block_model.specs.Index.{IndexRow, IsIndexRow, index_row_bytes}
-use Rattle.block_model.specs.IndexReading.{last_in, last_length_in, pages_in, row_fault, row_in, row_width_in, rows_fault, rows_in, sum_in}
+use Rattle.block_model.specs.IndexReading.{last_in, last_length_in, pages_in, row_fault, row_in, row_width_in, rows_fault, rows_in, rows_width_in, sum_in}
 use Rattle.block_model.specs.Order.{Follow}
 use Rattle.key_base.specs.ByteOrder.{is_before}
 use Rattle.block_model.proofs.OldEntriesRead.{eqb_zero, key_length_kept}
@@ -69,23 +70,39 @@ row_kept place test row rest is passes =
 past_row : (row : IndexRow) (rest : Bytes) → IsIndexRow row → drop (row_width_in (index_row_bytes row ++ rest)) (index_row_bytes row ++ rest) ≡ rest
 past_row row rest is = drop_at (index_row_bytes row) rest (row_width_in (index_row_bytes row ++ rest)) (sym (width_again row rest is))
 
-pub rows_kept : (place : ℕ) (test : Bytes → Bool) (rows : List IndexRow) → AllByRecursion IsIndexRow rows → Follow test (map (λ row. row.last) rows)
-    → rows_fault (length rows) place test (flat_map index_row_bytes rows) ≡ None
+-- ---- rows, with anything after them
+
+pub rows_kept : (place : ℕ) (test : Bytes → Bool) (rows : List IndexRow) (tail : Bytes) → AllByRecursion IsIndexRow rows → Follow test (map (λ row. row.last) rows)
+    → rows_fault (length rows) place test (flat_map index_row_bytes rows ++ tail) ≡ None
 unfolding rows_fault
-rows_kept place test [] is rises = refl
-rows_kept place test (row ∷ rows) is rises =
-    let rest = flat_map index_row_bytes rows in
+rows_kept place test [] tail is rises = refl
+rows_kept place test (row ∷ rows) tail is rises =
+    let rest = flat_map index_row_bytes rows ++ tail in
     let b = index_row_bytes row ++ rest in
-    let later = rows_kept (place + row_width_in b) (is_before row.last) rows is.1 rises.1 in
-    none_of _ _ (row_kept place test row rest is.0 rises.0)
+    let later = rows_kept (place + row_width_in b) (is_before row.last) rows tail is.1 rises.1 in
+    ap (rows_fault (length (row ∷ rows)) place test) (append_assoc (index_row_bytes row) (flat_map index_row_bytes rows) tail)
+    ∙ none_of _ _ (row_kept place test row rest is.0 rises.0)
     (ap₂ (λ (k : Bytes) (r : Bytes). rows_fault (length rows) (place + row_width_in b) (is_before k) r) (last_again row rest is.0) (past_row row rest is.0) ∙ later)
 
-pub rows_again : (rows : List IndexRow) → AllByRecursion IsIndexRow rows → rows_in (length rows) (flat_map index_row_bytes rows) ≡ rows
+pub rows_again : (rows : List IndexRow) (tail : Bytes) → AllByRecursion IsIndexRow rows → rows_in (length rows) (flat_map index_row_bytes rows ++ tail) ≡ rows
 unfolding rows_in
-rows_again [] is = refl
-rows_again (row ∷ rows) is =
-    let rest = flat_map index_row_bytes rows in
-    ap₂ (λ (x : IndexRow) (r : Bytes). x ∷ rows_in (length rows) r) (row_again row rest is.0) (past_row row rest is.0) ∙ ap (λ (l : List IndexRow). row ∷ l) (rows_again rows is.1)
+rows_again [] tail is = refl
+rows_again (row ∷ rows) tail is =
+    let rest = flat_map index_row_bytes rows ++ tail in
+    ap (rows_in (length (row ∷ rows))) (append_assoc (index_row_bytes row) (flat_map index_row_bytes rows) tail)
+    ∙ ap₂ (λ (x : IndexRow) (r : Bytes). x ∷ rows_in (length rows) r) (row_again row rest is.0) (past_row row rest is.0)
+    ∙ ap (λ (l : List IndexRow). row ∷ l) (rows_again rows tail is.1)
+
+pub rows_width_again : (rows : List IndexRow) (tail : Bytes) → AllByRecursion IsIndexRow rows
+    → rows_width_in (length rows) (flat_map index_row_bytes rows ++ tail) ≡ length (flat_map index_row_bytes rows)
+unfolding rows_width_in
+rows_width_again [] tail is = refl
+rows_width_again (row ∷ rows) tail is =
+    let rest = flat_map index_row_bytes rows ++ tail in
+    ap (rows_width_in (length (row ∷ rows))) (append_assoc (index_row_bytes row) (flat_map index_row_bytes rows) tail)
+    ∙ ap₂ (λ (n : ℕ) (r : Bytes). n + rows_width_in (length rows) r) (width_again row rest is.0) (past_row row rest is.0)
+    ∙ ap (λ (n : ℕ). length (index_row_bytes row) + n) (rows_width_again rows tail is.1)
+    ∙ sym (length-append (index_row_bytes row) (flat_map index_row_bytes rows))
 
 -- ---- what breaks no rule was written so
 
@@ -141,23 +158,23 @@ row_written place test rest bytes none =
     }
 
 pub record RowsWritten (n : ℕ) (rest : Bytes) (test : Bytes → Bool) : Type 0 where
-  pub written : flat_map index_row_bytes (rows_in n rest) ≡ rest
+  pub within : rows_width_in n rest ≤ length rest
+  pub written : flat_map index_row_bytes (rows_in n rest) ≡ take (rows_width_in n rest) rest
   pub each : AllByRecursion IsIndexRow (rows_in n rest)
   pub follow : Follow test (map (λ row. row.last) (rows_in n rest))
   pub many : length (rows_in n rest) ≡ n
 
 pub rows_written : (n place : ℕ) (test : Bytes → Bool) (rest : Bytes) → IsBytes rest → rows_fault n place test rest ≡ None → RowsWritten n rest test
-unfolding rows_fault rows_in row_in
-rows_written zero place test rest bytes none =
-    let le : length rest ≤ 0 = ltb-false 0 (length rest) (kept (nat_lt 0 (length rest)) place 7 None none).0 in
-    record { written = sym (nil_from_length rest (omega (arith, le))); each = tt; follow = tt; many = refl }
+unfolding rows_fault rows_in row_in rows_width_in
+rows_written zero place test rest bytes none = record { within = omega arith; written = refl; each = tt; follow = tt; many = refl }
 rows_written (suc n) place test rest bytes none =
     let both = neither _ _ none in
     let one = row_written place test rest bytes both.0 in
     let w = row_width_in rest in
     let later = rows_written n (place + w) (is_before (last_in rest)) (drop w rest) (IsBytes-drop w rest bytes) both.1 in
     record {
-      written = ap₂ (λ (a b : Bytes). a ++ b) one.written later.written ∙ take-append-drop w rest;
+      within = omega (arith, one.within, later.within, length-drop w rest);
+      written = ap₂ (λ (a b : Bytes). a ++ b) one.written later.written ∙ sym (take-add w (rows_width_in n (drop w rest)) rest);
       each = (one.is, later.each);
       follow = (one.passes, later.follow);
       many = omega (arith, later.many);

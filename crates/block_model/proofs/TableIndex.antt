@@ -13,7 +13,7 @@ use Rattle.byte_fields.specs.Sums.{fnv_after, fnv_of, fnv_step}
 use Rattle.map_model.specs.SortedMap.{Bytes, byte_order}
 use Rattle.entry_model.specs.Entries.{Entry, IsEntry, keys_of}
 use Rattle.block_model.specs.Block.{block_bytes}
-use Rattle.block_model.specs.Index.{IndexRow, IsIndexRow, index_of, index_row_of, row_pages}
+use Rattle.block_model.specs.Index.{IndexRow, IsIndexRow, index_with, index_row_of, row_pages}
 use Rattle.block_model.specs.Laws.{IndexIsSound, joined}
 use Rattle.block_model.specs.Order.{Follow, is_any, is_from}
 use Rattle.block_model.specs.Pages.{block_length, block_pages, blocks_of, data_pages, first_key, last_key, pages_for}
@@ -126,8 +126,8 @@ some_block [] some = absurd (omega (arith, some))
 some_block (b ∷ more) some = omega arith
 
 pub index_sound : IndexIsSound
-unfolding index_of data_pages
-index_sound entries is =
+unfolding index_with data_pages
+index_sound entries ranges is are =
     let blocks = blocks_of entries in
     let parts = blocks_are_parts entries is.sound.each in
     let all = blocks_joined entries in
@@ -142,4 +142,5 @@ index_sound entries is =
       each = rows_sound blocks parts;
       rising = subst (Follow (is_from (first_key entries))) (sym (rows_lasts blocks)) (subst (λ (l : List Entry). Follow (is_from (first_key l)) (map last_key blocks)) all follow);
       all_pages = rows_pages blocks;
+      ranges = are;
     }

@@ -6,12 +6,13 @@ use Rattle.byte_fields.specs.Spelling.{IsBytes}
 use Rattle.key_base.specs.Limits.{max_block_pages}
 use Rattle.map_model.specs.SortedMap.{Bytes}
 use Rattle.entry_model.specs.Entries.{Entry}
+use Rattle.range_model.specs.Ranges.{DeletedRange}
 use Rattle.block_model.specs.Block.{IsBlock, IsTable, block_bytes, data_bytes, spelled_by}
 use Rattle.block_model.specs.BlockReading.{block_fault, block_in}
 use Rattle.block_model.specs.Formats.{Format, Prefixed, format_in}
-use Rattle.block_model.specs.Index.{Index, IsIndex, index_bytes, index_of}
+use Rattle.block_model.specs.Index.{AreIndexRanges, Index, IsIndex, index_bytes, index_with}
 use Rattle.block_model.specs.IndexReading.{index_fault, index_in}
-use Rattle.block_model.specs.Pages.{block_pages, blocks_of, blocks_with, data_pages, index_length, page_bytes}
+use Rattle.block_model.specs.Pages.{block_pages, blocks_of, blocks_with, data_pages, index_length_with, page_bytes}
 
 abbrev pub joined : List (List Entry) → List Entry
 joined blocks = flat_map (λ block. block) blocks
@@ -41,11 +42,12 @@ BlockHasFewPages = (block : List Entry) → IsBlock Prefixed block → (1 ≤ bl
 
 -- an index is as long as is counted
 abbrev pub IndexHasItsLength : Type 0
-IndexHasItsLength = (entries : List Entry) → length (index_bytes (index_of entries)) ≡ index_length entries
+IndexHasItsLength = (entries : List Entry) (ranges : List DeletedRange) → length (index_bytes (index_with entries ranges)) ≡ index_length_with entries ranges
 
 -- the index of a table is one
 abbrev pub IndexIsSound : Type 0
-IndexIsSound = (entries : List Entry) → IsTable entries → IsIndex (data_pages entries) (index_of entries)
+IndexIsSound =
+    (entries : List Entry) (ranges : List DeletedRange) → IsTable entries → AreIndexRanges ranges → IsIndex (data_pages entries) (index_with entries ranges)
 
 -- what was written is read again
 abbrev pub BlockIsReadAgain : Type 0

@@ -1,8 +1,9 @@
 -- How the entries of a table are cut into blocks, and how many bytes and pages its blocks and its index take.
 use Rattle.std.specs.Prelude.{ℕ, ◌+◌, ◌-◌, ◌*◌, ◌/◌, nat_le, nat_lt, ◌&&◌, Bool, false, List, [], ◌∷◌, ◌++◌, length, fold, replicate, sum_by, if◌then◌else◌}
 pub use Rattle.key_base.specs.Limits.{max_block_entries, page_bytes}
-use Rattle.map_model.specs.SortedMap.{Bytes}
+pub use Rattle.entry_model.specs.Entries.{first_key, last_key}
 use Rattle.entry_model.specs.Entries.{Entry}
+use Rattle.range_model.specs.Ranges.{DeletedRange}
 use Rattle.block_model.specs.Bodies.{entries_bytes}
 use Rattle.block_model.specs.Formats.{places_length}
 
@@ -45,16 +46,13 @@ blocks_of entries = fold blocks_with [] entries
 unfoldable pub data_pages : List Entry → ℕ
 data_pages entries = sum_by block_pages (blocks_of entries)
 
--- the key of the first entry, and of the last
-abbrev pub first_key : List Entry → Bytes
-first_key [] = []
-first_key (entry ∷ later) = entry.key
-
-abbrev pub last_key : List Entry → Bytes
-last_key [] = []
-last_key (entry ∷ []) = entry.key
-last_key (entry ∷ next ∷ later) = last_key (next ∷ later)
-
 -- the bytes of the index: its head with the least key, and for each block its pages, its sum and its last key
 unfoldable pub index_length : List Entry → ℕ
 index_length entries = 10 + length (first_key entries) + sum_by (λ block. 14 + length (last_key block)) (blocks_of entries)
+
+-- those of the index of entries with ranges: where there are ranges it has their number, and for each of them its two keys with
+-- their lengths
+abbrev pub index_length_with : List Entry → List DeletedRange → ℕ
+index_length_with entries [] = index_length entries
+index_length_with entries (range ∷ later) =
+    index_length entries + (4 + sum_by (λ (r : DeletedRange). 4 + length r.lo + length r.hi) (range ∷ later))

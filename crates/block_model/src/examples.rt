@@ -4,10 +4,11 @@ ghost use Rattle.block_model.specs.OldBlock.{old_block_bytes};
 ghost use Rattle.block_model.specs.BlockReading.{block_fault, block_in};
 ghost use Rattle.block_model.specs.Index.{index_bytes, index_of};
 ghost use Rattle.block_model.specs.IndexReading.{index_fault, index_in};
-ghost use Rattle.block_model.specs.Pages.{pages_for, block_length, block_pages, blocks_of, data_pages, first_key, index_length, last_key};
+ghost use Rattle.block_model.specs.Pages.{pages_for, block_length, block_pages, blocks_of, data_pages, first_key, index_length, index_length_with, last_key};
 ghost use Rattle.block_model.specs.Places.{byte_of_page, end_page, filter_page, index_page, pages_of};
-ghost use Rattle.block_model.specs.Examples.{a_b, no_ab, ten_pages, wide, a_and_ab, broken, broken_twice, broken_index, broken_index_twice, two_blocks};
+ghost use Rattle.block_model.specs.Examples.{a_b, no_ab, ten_pages, wide, a_and_ab, broken, broken_twice, broken_index, broken_index_twice, two_blocks, ranges_of_a, a_to_c, d_to_e, one_range, two_ranges};
 ghost use Rattle.byte_fields.specs.Faults.{fault};
+ghost use Rattle.range_model.specs.Ranges.{range_of};
 
 /// Bytes in whole pages, rounded up.
 #[tactic(auto, unfolding(crate::specs::Pages::pages_for))]
@@ -105,7 +106,7 @@ pub fn twice_broken_old_blocks()
 {}
 
 /// The index of the block with a and ab.
-#[tactic(auto, unfolding(crate::specs::Pages::pages_for, crate::specs::Pages::padding, crate::specs::Bodies::entries_bytes, crate::specs::Bodies::listed_places, crate::specs::Pages::block_length, crate::specs::Pages::block_pages, crate::specs::Pages::blocks_of, crate::specs::Block::list_bytes, crate::specs::Block::block_bytes, crate::specs::Block::header_bytes, crate::specs::Index::index_of, crate::specs::Index::index_row_of, crate::specs::Index::index_bytes, crate::specs::Index::index_head_bytes, crate::specs::Index::index_row_bytes))]
+#[tactic(auto, unfolding(crate::specs::Pages::pages_for, crate::specs::Pages::padding, crate::specs::Bodies::entries_bytes, crate::specs::Bodies::listed_places, crate::specs::Pages::block_length, crate::specs::Pages::block_pages, crate::specs::Pages::blocks_of, crate::specs::Block::list_bytes, crate::specs::Block::block_bytes, crate::specs::Block::header_bytes, crate::specs::Index::index_with, crate::specs::Index::index_row_of, crate::specs::Index::index_bytes, crate::specs::Index::range_bytes, crate::specs::Index::ranges_bytes, crate::specs::Index::index_head_bytes, crate::specs::Index::index_row_bytes))]
 pub fn small_index_bytes()
     ensures { index_bytes (index_of a_and_ab)
         ≡ 0x53 ∷ 0x52 ∷ 0x46 ∷ 0x49 ∷ 1 ∷ 0 ∷ 0 ∷ 0 ∷ 1 ∷ 0 ∷ 0x61
@@ -115,14 +116,14 @@ pub fn small_index_bytes()
 {}
 
 /// An index of two blocks, of one page and of two, is read as it was written.
-#[tactic(auto, unfolding(crate::specs::Index::index_bytes, crate::specs::Index::index_head_bytes, crate::specs::Index::index_row_bytes, crate::specs::IndexReading::head_width_in, crate::specs::IndexReading::least_in, crate::specs::IndexReading::index_head_fault, crate::specs::IndexReading::row_width_in, crate::specs::IndexReading::last_in, crate::specs::IndexReading::row_in, crate::specs::IndexReading::row_fault, crate::specs::IndexReading::rows_fault, crate::specs::IndexReading::rows_in, crate::specs::IndexReading::index_in, crate::specs::IndexReading::pages_fault, crate::specs::IndexReading::index_fault))]
+#[tactic(auto, unfolding(crate::specs::Index::index_bytes, crate::specs::Index::range_bytes, crate::specs::Index::ranges_bytes, crate::specs::Index::index_head_bytes, crate::specs::Index::index_row_bytes, crate::specs::IndexReading::head_width_in, crate::specs::IndexReading::least_in, crate::specs::IndexReading::index_head_fault, crate::specs::IndexReading::row_width_in, crate::specs::IndexReading::last_in, crate::specs::IndexReading::row_in, crate::specs::IndexReading::row_fault, crate::specs::IndexReading::rows_fault, crate::specs::IndexReading::rows_in, crate::specs::IndexReading::rows_width_in, crate::specs::IndexReading::rows_end_in, crate::specs::IndexReading::bound_in, crate::specs::IndexReading::range_width_in, crate::specs::IndexReading::range_in, crate::specs::IndexReading::range_fault, crate::specs::IndexReading::ranges_fault, crate::specs::IndexReading::ranges_in, crate::specs::IndexReading::all_ranges_fault, crate::specs::IndexReading::all_ranges_in, crate::specs::IndexReading::index_in, crate::specs::IndexReading::pages_fault, crate::specs::IndexReading::index_fault))]
 pub fn small_index_is_read()
     ensures no_fault { index_fault 3 (index_bytes two_blocks) ≡ None }
     ensures index { index_in (index_bytes two_blocks) ≡ two_blocks }
 {}
 
 /// Where one byte of the index is another one, or bytes are missing or left.
-#[tactic(auto, unfolding(crate::specs::Index::index_bytes, crate::specs::Index::index_head_bytes, crate::specs::Index::index_row_bytes, crate::specs::IndexReading::head_width_in, crate::specs::IndexReading::least_in, crate::specs::IndexReading::index_head_fault, crate::specs::IndexReading::row_width_in, crate::specs::IndexReading::last_in, crate::specs::IndexReading::row_in, crate::specs::IndexReading::row_fault, crate::specs::IndexReading::rows_fault, crate::specs::IndexReading::rows_in, crate::specs::IndexReading::index_in, crate::specs::IndexReading::pages_fault, crate::specs::IndexReading::index_fault, crate::specs::Examples::broken_index))]
+#[tactic(auto, unfolding(crate::specs::Index::index_bytes, crate::specs::Index::range_bytes, crate::specs::Index::ranges_bytes, crate::specs::Index::index_head_bytes, crate::specs::Index::index_row_bytes, crate::specs::IndexReading::head_width_in, crate::specs::IndexReading::least_in, crate::specs::IndexReading::index_head_fault, crate::specs::IndexReading::row_width_in, crate::specs::IndexReading::last_in, crate::specs::IndexReading::row_in, crate::specs::IndexReading::row_fault, crate::specs::IndexReading::rows_fault, crate::specs::IndexReading::rows_in, crate::specs::IndexReading::rows_width_in, crate::specs::IndexReading::rows_end_in, crate::specs::IndexReading::bound_in, crate::specs::IndexReading::range_width_in, crate::specs::IndexReading::range_in, crate::specs::IndexReading::range_fault, crate::specs::IndexReading::ranges_fault, crate::specs::IndexReading::ranges_in, crate::specs::IndexReading::all_ranges_fault, crate::specs::IndexReading::all_ranges_in, crate::specs::IndexReading::index_in, crate::specs::IndexReading::pages_fault, crate::specs::IndexReading::index_fault, crate::specs::Examples::broken_index))]
 pub fn broken_indexes()
     ensures head_is_cut { index_fault 3 (take 9 (index_bytes two_blocks)) ≡ Some (fault 9 1) }
     ensures least_key_runs_past { index_fault 3 (broken_index 9 1) ≡ Some (fault 42 1) }
@@ -142,7 +143,7 @@ pub fn broken_indexes()
 
 /// Where two rules are broken: the first of them in their order, row by row. Last keys that are equal do not rise; the first
 /// may be the least key.
-#[tactic(auto, unfolding(crate::specs::Index::index_bytes, crate::specs::Index::index_head_bytes, crate::specs::Index::index_row_bytes, crate::specs::IndexReading::head_width_in, crate::specs::IndexReading::least_in, crate::specs::IndexReading::index_head_fault, crate::specs::IndexReading::row_width_in, crate::specs::IndexReading::last_in, crate::specs::IndexReading::row_in, crate::specs::IndexReading::row_fault, crate::specs::IndexReading::rows_fault, crate::specs::IndexReading::rows_in, crate::specs::IndexReading::index_in, crate::specs::IndexReading::pages_fault, crate::specs::IndexReading::index_fault, crate::specs::Examples::broken_index, crate::specs::Examples::broken_index_twice))]
+#[tactic(auto, unfolding(crate::specs::Index::index_bytes, crate::specs::Index::range_bytes, crate::specs::Index::ranges_bytes, crate::specs::Index::index_head_bytes, crate::specs::Index::index_row_bytes, crate::specs::IndexReading::head_width_in, crate::specs::IndexReading::least_in, crate::specs::IndexReading::index_head_fault, crate::specs::IndexReading::row_width_in, crate::specs::IndexReading::last_in, crate::specs::IndexReading::row_in, crate::specs::IndexReading::row_fault, crate::specs::IndexReading::rows_fault, crate::specs::IndexReading::rows_in, crate::specs::IndexReading::rows_width_in, crate::specs::IndexReading::rows_end_in, crate::specs::IndexReading::bound_in, crate::specs::IndexReading::range_width_in, crate::specs::IndexReading::range_in, crate::specs::IndexReading::range_fault, crate::specs::IndexReading::ranges_fault, crate::specs::IndexReading::ranges_in, crate::specs::IndexReading::all_ranges_fault, crate::specs::IndexReading::all_ranges_in, crate::specs::IndexReading::index_in, crate::specs::IndexReading::pages_fault, crate::specs::IndexReading::index_fault, crate::specs::Examples::broken_index, crate::specs::Examples::broken_index_twice))]
 pub fn twice_broken_indexes()
     ensures cut_then_magic { index_fault 3 (take 9 (broken_index 3 0x4D)) ≡ Some (fault 9 1) }
     ensures magic_then_no_blocks { index_fault 3 (broken_index_twice 3 0x4D 4 0) ≡ Some (fault 0 2) }
@@ -154,4 +155,65 @@ pub fn twice_broken_indexes()
     ensures the_first_row { index_fault 3 (broken_index_twice 11 0 40 0x61) ≡ Some (fault 11 6) }
     ensures equal_keys { index_fault 3 (take 41 (broken_index 38 1)) ≡ Some (fault 40 5) }
     ensures first_is_the_least { index_fault 3 (broken_index 10 0x62) ≡ None }
+{}
+
+/// The index of a table that deletes the keys from a up to c: after its rows their number and, for each range, its two keys with
+/// their lengths.
+#[tactic(auto, unfolding(crate::specs::Index::index_bytes, crate::specs::Index::range_bytes, crate::specs::Index::ranges_bytes, crate::specs::Index::index_head_bytes, crate::specs::Index::index_row_bytes, crate::specs::Examples::one_range, crate::specs::Examples::two_ranges))]
+pub fn ranges_in_an_index()
+    ensures magic { take 8 one_range ≡ 0x53 ∷ 0x52 ∷ 0x46 ∷ 0x4A ∷ 1 ∷ 0 ∷ 0 ∷ 0 ∷ [] }
+    ensures one { drop 26 one_range ≡ 1 ∷ 0 ∷ 0 ∷ 0 ∷ 1 ∷ 0 ∷ 0x61 ∷ 1 ∷ 0 ∷ 0x63 ∷ [] }
+    ensures two { drop 26 two_ranges ≡ 2 ∷ 0 ∷ 0 ∷ 0 ∷ 1 ∷ 0 ∷ 0x61 ∷ 1 ∷ 0 ∷ 0x63 ∷ 1 ∷ 0 ∷ 0x64 ∷ 1 ∷ 0 ∷ 0x65 ∷ [] }
+    ensures bytes_of_one { length one_range ≡ 36 }
+    ensures bytes_of_two { length two_ranges ≡ 42 }
+{}
+
+/// What ranges take of an index: none of it where there are none.
+#[tactic(auto, unfolding(crate::specs::Pages::block_length, crate::specs::Pages::blocks_of, crate::specs::Pages::index_length, crate::specs::Bodies::entries_bytes))]
+pub fn length_of_ranges()
+    ensures none { index_length_with (no_ab ∷ []) [] ≡ 28 }
+    ensures one { index_length_with (no_ab ∷ []) (a_to_c ∷ []) ≡ 38 }
+    ensures of_a_longer_end { index_length_with (no_ab ∷ []) (range_of (0x61 ∷ []) (0x63 ∷ 0 ∷ 0 ∷ []) ∷ []) ≡ 40 }
+    ensures two { index_length_with (no_ab ∷ []) (a_to_c ∷ d_to_e ∷ []) ≡ 44 }
+{}
+
+/// They are read as they were written.
+#[tactic(auto, unfolding(crate::specs::Index::index_bytes, crate::specs::Index::range_bytes, crate::specs::Index::ranges_bytes, crate::specs::Index::index_head_bytes, crate::specs::Index::index_row_bytes, crate::specs::IndexReading::head_width_in, crate::specs::IndexReading::least_in, crate::specs::IndexReading::index_head_fault, crate::specs::IndexReading::row_width_in, crate::specs::IndexReading::last_in, crate::specs::IndexReading::row_in, crate::specs::IndexReading::row_fault, crate::specs::IndexReading::rows_fault, crate::specs::IndexReading::rows_in, crate::specs::IndexReading::rows_width_in, crate::specs::IndexReading::rows_end_in, crate::specs::IndexReading::bound_in, crate::specs::IndexReading::range_width_in, crate::specs::IndexReading::range_in, crate::specs::IndexReading::range_fault, crate::specs::IndexReading::ranges_fault, crate::specs::IndexReading::ranges_in, crate::specs::IndexReading::all_ranges_fault, crate::specs::IndexReading::all_ranges_in, crate::specs::IndexReading::index_in, crate::specs::IndexReading::pages_fault, crate::specs::IndexReading::index_fault, crate::specs::Examples::one_range, crate::specs::Examples::two_ranges))]
+pub fn ranges_are_read()
+    ensures no_fault { index_fault 1 one_range ≡ None }
+    ensures index { index_in one_range ≡ ranges_of_a (a_to_c ∷ []) }
+    ensures two_without_fault { index_fault 1 two_ranges ≡ None }
+    ensures both { (index_in two_ranges).ranges ≡ a_to_c ∷ d_to_e ∷ [] }
+{}
+
+/// Where one byte of it is another one, or bytes are missing or left. A range begins above the end of the one before.
+#[tactic(auto, unfolding(crate::specs::Index::index_bytes, crate::specs::Index::range_bytes, crate::specs::Index::ranges_bytes, crate::specs::Index::index_head_bytes, crate::specs::Index::index_row_bytes, crate::specs::IndexReading::head_width_in, crate::specs::IndexReading::least_in, crate::specs::IndexReading::index_head_fault, crate::specs::IndexReading::row_width_in, crate::specs::IndexReading::last_in, crate::specs::IndexReading::row_in, crate::specs::IndexReading::row_fault, crate::specs::IndexReading::rows_fault, crate::specs::IndexReading::rows_in, crate::specs::IndexReading::rows_width_in, crate::specs::IndexReading::rows_end_in, crate::specs::IndexReading::bound_in, crate::specs::IndexReading::range_width_in, crate::specs::IndexReading::range_in, crate::specs::IndexReading::range_fault, crate::specs::IndexReading::ranges_fault, crate::specs::IndexReading::ranges_in, crate::specs::IndexReading::all_ranges_fault, crate::specs::IndexReading::all_ranges_in, crate::specs::IndexReading::index_in, crate::specs::IndexReading::pages_fault, crate::specs::IndexReading::index_fault, crate::specs::Examples::one_range, crate::specs::Examples::two_ranges))]
+pub fn broken_ranges()
+    ensures no_range { index_fault 1 (set one_range 26 0) ≡ Some (fault 26 9) }
+    ensures one_is_missing { index_fault 1 (set one_range 26 2) ≡ Some (fault 36 1) }
+    ensures no_lower_bound { index_fault 1 (set one_range 30 0) ≡ Some (fault 36 1) }
+    ensures no_upper_bound { index_fault 1 (set one_range 33 0) ≡ Some (fault 33 10) }
+    ensures equal_bounds { index_fault 1 (set one_range 35 0x61) ≡ Some (fault 32 10) }
+    ensures crossed_bounds { index_fault 1 (set one_range 32 0x64) ≡ Some (fault 32 10) }
+    ensures not_named { index_fault 1 (set one_range 3 0x49) ≡ Some (fault 26 7) }
+    ensures range_is_cut { index_fault 1 (take 35 one_range) ≡ Some (fault 35 1) }
+    ensures number_is_cut { index_fault 1 (take 29 one_range) ≡ Some (fault 29 1) }
+    ensures no_number { index_fault 1 (take 26 one_range) ≡ Some (fault 26 1) }
+    ensures bytes_are_left { index_fault 1 (one_range ++ 0 ∷ []) ≡ Some (fault 36 7) }
+    ensures other_pages { index_fault 1 (set one_range 11 2) ≡ Some (fault 4 8) }
+    ensures touching { index_fault 1 (set two_ranges 38 0x63) ≡ Some (fault 38 10) }
+    ensures overlapping { index_fault 1 (set two_ranges 38 0x62) ≡ Some (fault 38 10) }
+{}
+
+/// Where two rules are broken: the first of them in their order, range by range. Both fields of a range are looked at before
+/// their lengths.
+#[tactic(auto, unfolding(crate::specs::Index::index_bytes, crate::specs::Index::range_bytes, crate::specs::Index::ranges_bytes, crate::specs::Index::index_head_bytes, crate::specs::Index::index_row_bytes, crate::specs::IndexReading::head_width_in, crate::specs::IndexReading::least_in, crate::specs::IndexReading::index_head_fault, crate::specs::IndexReading::row_width_in, crate::specs::IndexReading::last_in, crate::specs::IndexReading::row_in, crate::specs::IndexReading::row_fault, crate::specs::IndexReading::rows_fault, crate::specs::IndexReading::rows_in, crate::specs::IndexReading::rows_width_in, crate::specs::IndexReading::rows_end_in, crate::specs::IndexReading::bound_in, crate::specs::IndexReading::range_width_in, crate::specs::IndexReading::range_in, crate::specs::IndexReading::range_fault, crate::specs::IndexReading::ranges_fault, crate::specs::IndexReading::ranges_in, crate::specs::IndexReading::all_ranges_fault, crate::specs::IndexReading::all_ranges_in, crate::specs::IndexReading::index_in, crate::specs::IndexReading::pages_fault, crate::specs::IndexReading::index_fault, crate::specs::Examples::one_range, crate::specs::Examples::two_ranges))]
+pub fn twice_broken_ranges()
+    ensures row_then_number { index_fault 1 (set (set one_range 11 0) 26 0) ≡ Some (fault 11 6) }
+    ensures number_then_pages { index_fault 2 (set one_range 26 0) ≡ Some (fault 26 9) }
+    ensures lower_then_upper { index_fault 1 (take 30 one_range ++ 0 ∷ 0 ∷ 0 ∷ 0 ∷ []) ≡ Some (fault 30 10) }
+    ensures length_then_order { index_fault 1 (set (set one_range 33 0) 32 0x64) ≡ Some (fault 33 10) }
+    ensures order_then_bytes_left { index_fault 1 (set one_range 32 0x64 ++ 0 ∷ []) ≡ Some (fault 32 10) }
+    ensures bytes_left_then_pages { index_fault 2 (one_range ++ 0 ∷ []) ≡ Some (fault 36 7) }
+    ensures the_first_range { index_fault 1 (set (set two_ranges 35 0x61) 38 0x62) ≡ Some (fault 32 10) }
 {}

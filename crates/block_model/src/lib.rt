@@ -10,6 +10,9 @@
 //! have whole keys and no list; they are read, and no longer written. `Formats` says what is read of an entry in either,
 //! `FormatLaws` what holds of both.
 //!
+//! An index also has the ranges of keys that its table deletes in older tables, after its rows and under another magic; most
+//! have none, and are spelled as before there were any.
+//!
 //! Nothing here reads or writes: `plain_blocks` has the obvious loops, `block_format` what a store uses. The functions
 //! with no parameter have no body: each has examples or laws as its contract, and none needs to be called.
 //!

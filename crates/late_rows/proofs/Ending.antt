@@ -49,6 +49,7 @@ module _ (tells : Bool) (tables : List Opened) (first now : LateMerge) (next : M
   all_late kept = record {
     numbers_are = kept.numbers_are ∙ goes.numbers_are;
     stands_are = kept.stands_are ∙ goes.stands_are;
+    drops_are = kept.drops_are ∙ goes.drops;
     sleep_on = λ at key is. no_key key (sym (awake at) ∙ is);
     wake_late = λ t s at key is none. subst (λ (l : List Entry). IsHeadFrom key (first_of l)) (sym (all_shown first.merge tables before.seen.held keeps)) (goes.wake_late t s at key is (awake at));
     sound = λ t s. record {

@@ -135,6 +135,7 @@ module _ (tells : Bool) (tables : List Opened) (key : Bytes) (first old new : La
   opens_late keeps = record {
     numbers_are = ap numbers steps.walks ∙ goes.numbers_are;
     stands_are = ap stands steps.walks ∙ goes.stands_are;
+    drops_are = steps.drops ∙ goes.drops;
     sleep_on = λ at other is.
         let on = goes.sleep_on at other (ap (λ (os : List (Option Bytes)). waking_at os at) (sym asleep) ∙ is) in
         (on.0, ap (λ (ws : List TableWalk). walk_in ws at) steps.walks ∙ on.1);
@@ -178,6 +179,7 @@ module _ (tells : Bool) (tables : List Opened) (first now : LateMerge) (before a
   goes_opens = record {
     numbers_are = goes.numbers_are;
     stands_are = goes.stands_are;
+    drops_are = goes.drops;
     sleep_on = goes.sleep_on;
     wake_late = λ t s at key is none. subst (λ (l : List Entry). IsHeadFrom key (first_of l)) (sym (all_shown first.merge tables before.seen.held keeps)) (goes.wake_late t s at key is none);
     sound = sound_now tells tables first now before after goes;

@@ -7,3 +7,4 @@ pub mod Composed
 pub mod Handing
 pub mod Ending
 pub mod Standing
+pub mod Pacing

@@ -64,3 +64,10 @@ pub record AwakeCatchUp (tells : Bool) (tables : List Opened) (old new : LateMer
   pub caught_up : IsTrue tells → OnOk result (AwakeCaughtUp old.merge.floor tables before.seen.held new.asleep new.merge.walks)
   pub heads_pass : OnOk result (AreHeadsClear old.merge.floor new.merge.walks)
   pub fails : IfErr result (FailsOn tells tables old new before after)
+
+-- A step to the next row: above the floor the same is left of each walk, those that are awake have caught up with it, and each entry
+-- at hand is above it.
+pub record IsLatePaced (tables : List Opened) (image : Image) (old new : LateMerge) : Type 0 where
+  pub same : map (left_above old.merge.floor tables image) new.merge.walks ≡ map (left_above old.merge.floor tables image) old.merge.walks
+  pub caught_up : AwakeCaughtUp old.merge.floor tables image new.asleep new.merge.walks
+  pub clear : AreHeadsClear old.merge.floor new.merge.walks

@@ -27,6 +27,7 @@ SleepAbove key asleep = (at : ℕ) (other : Bytes) → waking_at asleep at ≡ S
 pub record OpensLate (tells : Bool) (tables : List Opened) (image : Image) (old new : LateMerge) : Type 0 where
   pub numbers_are : numbers new.merge.walks ≡ numbers old.merge.walks
   pub stands_are : stands new.merge.walks ≡ stands old.merge.walks
+  pub drops_are : new.merge.drops ≡ old.merge.drops
   pub sleep_on : SleepOn old new
   pub wake_late : IsTrue tells → IsSoundLate old tables image → WakeLate (late_rows old tables image) old new
   pub sound : IsTrue tells → IsSoundLate old tables image → IsSoundLate new tables image

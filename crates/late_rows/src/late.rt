@@ -5,7 +5,7 @@ ghost use Rattle.std.specs.Option.{option_map};
 ghost use Rattle.block_model.specs.Places.{byte_of_page};
 ghost use Rattle.disk_trait.specs.World.{ReadMoves};
 ghost use Rattle.entry_model.specs.Entries.{IsEntry, entry_of};
-ghost use Rattle.late_rows.specs.Going.{AwakeCatchUp};
+ghost use Rattle.late_rows.specs.Going.{AwakeCatchUp, IsLatePaced};
 ghost use Rattle.late_rows.specs.Late.{AreStill, IsNext, IsSoundLate, late_from, waking_at, wanted_awake};
 ghost use Rattle.late_rows.specs.Opening.{IsLateFault, IsLateStep, OpensLate, SleepAbove};
 ghost use Rattle.map_model.specs.SortedMap.{Bytes};
@@ -100,6 +100,7 @@ impl<'m> LateRows<'m> {
         ensures row { OnOk result (IsLateStep D.tells tables.now.tables (D.world disk.old).seen.held self.old self.new) }
         ensures stays { OnErr result (IsLateFault D.tells tables.now.tables (D.world disk.old).seen.held self.old self.new) }
         ensures sound { OnOk result (IfSome self.new.merge.now IsEntry) }
+        ensures paced { IsTrue D.tells → OnOk result (IsLatePaced tables.now.tables (D.world disk.old).seen.held self.old self.new) }
         ensures above { OnOk result (IfSome self.new.merge.now (λ row. SleepAbove row.key self.new.asleep)) }
         ensures least { OnOk result (IsLeastRow self.new.merge) }
         ensures read_all { OnOk result (IsNext self.new.asleep None → HaveReadAll tables.now.tables self.new.merge.walks) }

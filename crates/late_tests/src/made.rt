@@ -74,7 +74,7 @@ pub fn table_of(
         let value: Option<&[u8]> = if key[1] == 1 { None } else { Some(b"value") };
         add(&mut builder, key, value)?;
     }
-    if builder.is_empty() || page > 1_000_000 {
+    if builder.is_empty() || !builder.begins_at_keys() || page > 1_000_000 {
         return Err(Fail::from("no entries"));
     }
     let parts: Parts<PlainFilter> = builder.finish()?;

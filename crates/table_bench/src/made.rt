@@ -60,7 +60,7 @@ pub fn build(alloc: Global, load: &Load) -> Result<Parts<PlainFilter>> {
         write_key(2 * u64::from(i), &mut key, load.key)?;
         add(&mut builder, &key, &value)?;
     }
-    if builder.is_empty() {
+    if builder.is_empty() || !builder.begins_at_keys() {
         bail!("no pairs");
     }
     Ok(builder.finish()?)

@@ -7,10 +7,11 @@ use Rattle.std.proofs.lemmas.List.{append-nil, drop_at, map-append, take_at}
 use Rattle.std.proofs.lemmas.List.Sums.{sum_by-append, sum_by-cons}
 use Rattle.map_model.specs.SortedMap.{Bytes}
 use Rattle.entry_model.specs.Entries.{Entry, IsEntry, keys_of}
+use Rattle.range_model.specs.Ranges.{DeletedRange}
 use Rattle.block_model.specs.Block.{AreEntries, IsBlock, IsTable, block_bytes}
 use Rattle.block_model.specs.BlockReading.{block_in}
 use Rattle.block_model.specs.Formats.{Prefixed}
-use Rattle.block_model.specs.Index.{IndexRow, index_row_of, row_pages}
+use Rattle.block_model.specs.Index.{AreIndexRanges, IndexRow, index_row_of, row_pages}
 use Rattle.block_model.specs.Laws.{joined}
 use Rattle.key_base.specs.ByteOrder.{is_before}
 use Rattle.block_model.specs.Order.{Follow, is_any}
@@ -24,6 +25,10 @@ use Rattle.block_format.specs.Building.{takes}
 use Rattle.table_file.specs.BlockRows.{StandFrom, rows_seen, unsummed_row_of}
 use Rattle.table_file.specs.Building.{Holds, closed_in, entries_with, with_open}
 use Rattle.table_file.specs.declared.block_row.BlockRow.{BlockRow}
+
+pub no_ranges : (ranges : List DeletedRange) → ranges ≡ [] → AreIndexRanges ranges
+no_ranges [] none = record { sound = record { are = tt; rise = tt; bounds = tt }; few = omega arith }
+no_ranges (range ∷ later) none = cc
 
 -- ---- blocks are read again
 

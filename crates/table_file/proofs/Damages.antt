@@ -1,6 +1,7 @@
 -- What damage a fault of opening says.
 use Rattle.std.proofs.Common.{◌≡◌, ◌≢◌, ◌+◌, ℕ, List, length, sym, ap, ap₂, ◌∙◌, refl, subst}
-use Rattle.std.specs.Prelude.{None, Result, Ok, Err, IfOk, IfErr, MatchResult}
+use Rattle.std.specs.Option.{option_or}
+use Rattle.std.specs.Prelude.{None, Result, Ok, Err, IfOk, IfErr, MatchResult, ◌==◌, not, drop}
 use Rattle.std.proofs.lemmas.Bool.{eqb-true}
 use Rattle.byte_fields.specs.Faults.{Fault, fault}
 use Rattle.byte_fields.specs.Sums.{fnv_of}
@@ -14,7 +15,8 @@ use Rattle.filter_api.specs.declared.errors.FilterFault.{FilterFault}
 use Rattle.filter_model.specs.Leaves.{Filter, Leaf}
 use Rattle.map_model.specs.SortedMap.{Bytes}
 use Rattle.block_model.specs.Index.{row_pages}
-use Rattle.block_model.specs.IndexReading.{index_fault, index_in, pages_fault}
+use Rattle.block_model.specs.IndexReading.{all_ranges_fault, has_ranges_in, head_width_in, index_fault, index_head_fault, index_in, least_in, pages_fault, rows_count_in, rows_end_in, rows_fault, rows_part}
+use Rattle.block_model.specs.Order.{is_from}
 use Rattle.block_model.specs.Places.{byte_of_page, filter_page}
 use Rattle.block_model.proofs.Refusals.{kept, neither, not_false}
 use Rattle.table_model.specs.Damage.{HasWidths, IsFilterDamage, filter_part, no_spelling, other_leaves, other_sum, other_widths}
@@ -100,4 +102,11 @@ module _ (spelling : Spelling) (first : Bytes → Fault) (row : Row) (image : Im
 -- the blocks of an index have as many pages as the table
 pub pages_kept : (pages : ℕ) (bytes : Bytes) → index_fault pages bytes ≡ None → row_pages (index_in bytes).rows ≡ pages
 unfolding index_fault pages_fault
-pages_kept pages bytes none = eqb-true _ _ (not_false _ (kept _ _ _ _ (neither _ _ (neither _ _ none).1).1).0)
+pages_kept pages bytes none =
+    let end = rows_end_in bytes in
+    let last = pages_fault pages bytes in
+    let ranges = all_ranges_fault (has_ranges_in bytes) end (drop end bytes) in
+    let rows = rows_fault (rows_count_in bytes) (head_width_in bytes) (is_from (least_in bytes)) (rows_part bytes) in
+    let after_head = neither (index_head_fault bytes) (option_or rows (option_or ranges last)) none in
+    let left = neither ranges last (neither rows (option_or ranges last) after_head.1).1 in
+    eqb-true _ _ (not_false _ (kept (not (row_pages (index_in bytes).rows == pages)) 4 8 None left.1).0)

@@ -2,6 +2,8 @@ mod Keys
 mod BlockSums
 mod Builders
 mod Helds
+mod RangeWalks
+mod RangeStarts
 mod IndexWalks
 mod IntoTable
 mod Damages

@@ -32,7 +32,7 @@ use Rattle.table_file.specs.Search.{IsGetFault, IsSoundBlock, bytes_at, first_bl
 use Rattle.table_file.specs.Walks.{BeginsWell, CursorWalk, WalkGoesOn, blocks_on, blocks_there, joined_from}
 use Rattle.table_file.specs.declared.fault.TableFault.{TableFault}
 use Rattle.table_file.specs.declared.fault.TableFault.TheVariants as table
-use Rattle.table_model.proofs.Kept.{at_kept, kept_pieces}
+use Rattle.table_model.proofs.Kept.{at_kept, kept_pieces, kept_ranges}
 use Rattle.table_model.specs.Pieces.{index_of_pieces}
 use Rattle.table_model.specs.Pieces.{IsPiece, blocks_in, end_to_end, row_of_piece}
 use Rattle.table_model.proofs.Pieces.{piece_fills, row_pages_are}
@@ -46,7 +46,7 @@ use Rattle.table_file.proofs.Walks.{at_block}
 pub standing_kept : StandingIsKept
 standing_kept spelling t blocks at n old new apart torn s = record {
   at = at_kept spelling t.row blocks at n old new apart torn s.at;
-  index_is = s.index_is ∙ sym (ap index_of_pieces (kept_pieces spelling t.row blocks at n old new apart torn s.at));
+  index_is = s.index_is ∙ sym (ap₂ index_of_pieces (kept_pieces spelling t.row blocks at n old new apart torn s.at) (kept_ranges spelling t.row blocks at n old new apart torn s.at));
   hash_is = s.hash_is;
   real_is = s.real_is;
   leaves_are = s.leaves_are;

@@ -72,7 +72,7 @@ beyond (b ∷ more) (suc n) le = beyond more n (omega (arith, le))
 
 module _ (spelling : Spelling) (t : Opened) (blocks : List (List Entry)) (image : Image) (s : StandsThere spelling t blocks image) where
   pub rows_are : t.index.rows ≡ map row_of_piece s.at.pieces
-  rows_are = ap (λ (x : Index). x.rows) s.index_is ∙ rows_of_index s.at.pieces
+  rows_are = ap (λ (x : Index). x.rows) s.index_is ∙ rows_of_index s.at.pieces s.at.ranges
 
   pub lasts_are : last_keys t.index.rows ≡ last_keys (map index_row_of blocks)
   lasts_are = ap last_keys rows_are ∙ rows_lasts s.at.pieces ∙ ap (λ (bs : List (List Entry)). last_keys (map index_row_of bs)) s.at.read
@@ -84,7 +84,7 @@ module _ (spelling : Spelling) (t : Opened) (blocks : List (List Entry)) (image 
   many_rows = same_many t.index.rows (map index_row_of blocks) lasts_are ∙ length-map blocks index_row_of
 
   pub least_is : t.index.least ≡ first_key (joined blocks)
-  least_is = ap (λ (x : Index). x.least) s.index_is ∙ least_of_index s.at.pieces ∙ ap (λ (bs : List (List Entry)). first_key (joined bs)) s.at.read
+  least_is = ap (λ (x : Index). x.least) s.index_is ∙ least_of_index s.at.pieces s.at.ranges ∙ ap (λ (bs : List (List Entry)). first_key (joined bs)) s.at.read
 
   pub each_some : AllByRecursion (λ b. 1 ≤ length b) blocks
   each_some = subst (AllByRecursion (λ b. 1 ≤ length b)) s.at.read (some_each s.at.pieces s.at.each)

@@ -4,6 +4,8 @@ use Rattle.std.specs.List.{AllByRecursion}
 use Rattle.filter_api.specs.declared.settings.Settings.{Settings}
 use Rattle.map_model.specs.SortedMap.{Bytes}
 use Rattle.entry_model.specs.Entries.{Entry, keys_of}
+use Rattle.range_model.specs.Ranges.{DeletedRange}
+use Rattle.range_model.specs.Sources.{Source}
 use Rattle.block_model.specs.Block.{AreEntries, IsBlock, block_bytes}
 use Rattle.block_model.specs.BlockReading.{block_in}
 use Rattle.block_model.specs.Formats.{Prefixed}
@@ -13,10 +15,14 @@ use Rattle.block_model.specs.Order.{Follow, is_any}
 use Rattle.block_model.specs.Pages.{blocks_of, page_bytes}
 use Rattle.table_file.specs.BlockRows.{unsummed_row_of}
 
--- the entries of a table that is built, and the settings of its filter
+-- the entries and the ranges of a table that is built, and the settings of its filter
 pub record Built : Type 0 where
   pub settings : Settings
   pub entries : List Entry
+  pub ranges : List DeletedRange
+
+abbrev pub source_in : Built → Source
+source_in built = record { entries = built.entries; ranges = built.ranges }
 
 -- the blocks that these bytes are, one after the other, with the pages of these rows
 abbrev pub closed_in : List IndexRow → Bytes → List (List Entry)

@@ -10,6 +10,7 @@ use Rattle.key_base.specs.ByteOrder.{is_before}
 use Rattle.map_model.specs.SortedMap.{Bytes}
 use Rattle.entry_model.specs.Entries.{Entry, keys_of}
 use Rattle.entry_model.specs.Newest.{entries_from, lookup}
+use Rattle.range_model.specs.Sources.{Source}
 use Rattle.block_model.specs.BlockReading.{block_in}
 use Rattle.block_model.specs.Laws.{joined}
 use Rattle.block_model.specs.Pages.{first_key, last_key}
@@ -31,7 +32,7 @@ OpenedStands =
 
 -- what is written shows the parts of its table
 abbrev pub WrittenIsShown : Type 0
-WrittenIsShown = (row : Row) (entries : List Entry) (filter_bytes : Bytes) (image : Image) → AreWritten row entries filter_bytes image → ArePartsShown row entries filter_bytes image
+WrittenIsShown = (row : Row) (s : Source) (filter_bytes : Bytes) (image : Image) → AreWritten row s filter_bytes image → ArePartsShown row s filter_bytes image
 
 -- ---- a table that is there
 

@@ -41,7 +41,7 @@ block_for t key = if point t.filter.hash_bits t.filter.real_bits t.filter.leaves
 -- the table of these blocks is on the device, and this is it, opened
 pub record StandsThere (spelling : Spelling) (t : Opened) (blocks : List (List Entry)) (image : Image) : Type 0 where
   pub at : IsTableAt spelling t.row blocks image
-  pub index_is : t.index ≡ index_of_pieces at.pieces
+  pub index_is : t.index ≡ index_of_pieces at.pieces at.ranges
   pub hash_is : t.filter.hash_bits ≡ t.row.hash_bits
   pub real_is : t.filter.real_bits ≡ t.row.real_bits
   pub leaves_are : t.filter.leaves ≡ leaves_of t.row.hash_bits t.row.real_bits (keys_of (joined blocks))

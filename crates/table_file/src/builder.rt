@@ -1,6 +1,9 @@
 //! A table that is built entry by entry.
-ghost use Rattle.std.specs.Prelude.{◌≡◌, true, false, ◌==◌, Option, ◌+◌, ◌*◌, ◌-◌, ◌<◌, ◌^◌, ◌++◌, [], ◌∷◌, List, length, IfOk, OnOk, OnErr};
+ghost use Rattle.std.specs.Prelude.{◌≡◌, ◌≢◌, None, true, false, ◌==◌, Option, ◌+◌, ◌*◌, ◌-◌, ◌<◌, ◌^◌, ◌++◌, [], ◌∷◌, List, length, IfOk, OnOk, OnErr};
+ghost use Rattle.std.specs.List.{AllByRecursion};
 ghost use Rattle.std.specs.Option.{option_map};
+ghost use Rattle.entry_model.specs.Newest.{lookup};
+ghost use Rattle.range_model.specs.Sources.{BeginsAtOne};
 ghost use Rattle.entry_model.specs.Entries.{IsEntry, entry_of, keys_of};
 ghost use Rattle.map_model.specs.SortedMap.{Bytes};
 ghost use Rattle.entry_model.specs.Entries as model;
@@ -19,6 +22,7 @@ use crate::summing::sum_blocks;
 use block_format::BlockBuilder;
 use filter_api::{RangeFilter, Settings};
 use key_base::{KeyList, PAGE_BYTES, compare};
+use range_tombs::Ranges;
 use std::alloc::{AllocError, Global};
 use std::marker::Model;
 use std::mem;
@@ -26,10 +30,13 @@ use std::mem;
 // The most entries of a table: a row counts them in four bytes.
 const MOST_ENTRIES: usize = 4_294_967_295;
 
+// The most ranges of one: its index counts them in four bytes.
+const MOST_RANGES: usize = 4_294_967_295;
+
 // The bytes of a key that is a number.
 const NUMBER_BYTES: usize = 8;
 
-/// A table that is built entry by entry, seen as its entries so far and the settings of its filter.
+/// A table that is built entry by entry, seen as its entries so far, its ranges and the settings of its filter.
 #[derive(Drop)]
 pub struct TableBuilder {
     settings: Settings,
@@ -41,29 +48,32 @@ pub struct TableBuilder {
     spare: BlockBuilder,
     // the keys of all entries
     keys: KeyList,
+    ranges: Ranges,
 }
 
 impl Model for TableBuilder {
     ghost use Rattle.std.specs.Prelude.{◌≡◌, []};
+    ghost use Rattle.block_model.specs.Index.{AreIndexRanges};
     ghost use Rattle.filter_api.specs.Ranges.{InRange};
     ghost use Rattle.table_file.specs.BlockRows.{StandFrom, rows_seen};
     ghost use Rattle.table_file.specs.Building.{Built, Holds, closed_in, entries_with};
 
     ghost Value = { Built };
 
-    ghost view = { λ b. record { settings = b.settings; entries = entries_with (closed_in (rows_seen b.rows.items) b.blocks.items) b.«open» } };
+    ghost view = { λ b. record { settings = b.settings; entries = entries_with (closed_in (rows_seen b.rows.items) b.blocks.items) b.«open»; ranges = b.ranges.ranges } };
 
     ghost invariant = { λ b. InRange b.settings
         × StandFrom 0 b.rows.items
         × Holds (closed_in (rows_seen b.rows.items) b.blocks.items) b.blocks.items (rows_seen b.rows.items) b.«open» b.keys
-        × (b.spare ≡ []) };
+        × (b.spare ≡ [])
+        × AreIndexRanges b.ranges.ranges };
 }
 
 impl TableBuilder {
     /// No entry, and no memory taken.
     pub fn new(alloc: Global, settings: Settings) -> Self
         requires { InRange settings }
-        ensures { result ≡ record { settings = settings; entries = [] } }
+        ensures { result ≡ record { settings = settings; entries = []; ranges = [] } }
     {
         TableBuilder {
             settings,
@@ -72,13 +82,14 @@ impl TableBuilder {
             open: BlockBuilder::new(alloc),
             spare: BlockBuilder::new(alloc),
             keys: KeyList::new(alloc),
+            ranges: Ranges::new(alloc),
         }
     }
 
     /// No entry, and room for blocks of a given number of pages, where there is memory for them: they need not be moved as they grow.
     pub fn with_room(alloc: Global, settings: Settings, pages: u32) -> Self
         requires { InRange settings }
-        ensures { result ≡ record { settings = settings; entries = [] } }
+        ensures { result ≡ record { settings = settings; entries = []; ranges = [] } }
     {
         TableBuilder {
             settings,
@@ -87,6 +98,7 @@ impl TableBuilder {
             open: BlockBuilder::new(alloc),
             spare: BlockBuilder::new(alloc),
             keys: KeyList::new(alloc),
+            ranges: Ranges::new(alloc),
         }
     }
 
@@ -133,6 +145,21 @@ impl TableBuilder {
         }
     }
 
+    /// The ranges of keys that the table deletes in older ones, in the place of any that were set before. Without memory, and of
+    /// 2^32 ranges or more, since an index counts them in four bytes, all stays as it was.
+    ///
+    /// It copies them.
+    pub fn set_ranges(&mut self, ranges: &Ranges) -> Result<(), AllocError>
+        ensures set { OnOk result (self.new ≡ record self.old { ranges = ranges.now.ranges }) }
+        ensures unchanged { OnErr result (self.new ≡ self.old) }
+    {
+        if ranges.len() > MOST_RANGES {
+            return Err(AllocError);
+        }
+        self.ranges = ranges.copied()?;
+        Ok(())
+    }
+
     // Whether a row could count no more entries.
     fn is_full(&self) -> bool
         ensures { result ≡ false → length self.now.entries < 2 ^ 32 - 1 }
@@ -158,11 +185,20 @@ impl TableBuilder {
         compare(last_of(&self.keys), key).is_lt()
     }
 
-    /// The parts of the table of the entries, one or more.
+    /// Whether each range begins at the key of an entry, as [`finish`](TableBuilder::finish) asks. It looks through the keys
+    /// for each of them.
+    pub fn begins_at_keys(&self) -> bool
+        ensures { result ≡ true → AllByRecursion (BeginsAtOne self.now.entries) self.now.ranges }
+    {
+        all_begin(&self.ranges, &self.keys)
+    }
+
+    /// The parts of the table of the entries, one or more, and of the ranges, each of which begins at the key of an entry.
     ///
     /// It closes the last block, sums all of them, builds the filter, and spells index and filter.
     pub fn finish<F: RangeFilter>(self) -> Result<Parts<F>, AllocError>
-        requires { 0 < length self.entries }
+        requires some { 0 < length self.entries }
+        requires begin { AllByRecursion (BeginsAtOne self.entries) self.ranges }
         ensures { IfOk result (λ p. p ≡ self) }
     {
         let TableBuilder {
@@ -171,13 +207,20 @@ impl TableBuilder {
             mut rows,
             mut open,
             keys,
+            ranges,
             ..
         } = self;
         let alloc = *blocks.allocator();
         close_block(&mut open, last_of(&keys), &mut blocks, &mut rows)?;
         sum_blocks(&blocks, &mut rows);
         let least = Vec::from_slice(alloc, keys.get(0))?;
-        Parts::new(alloc, settings, blocks, BlockIndex::new(least, rows), &keys)
+        Parts::new(
+            alloc,
+            settings,
+            blocks,
+            BlockIndex::new(least, rows, ranges),
+            &keys,
+        )
     }
 
     /// How many pages the blocks of the entries take that were added so far.
@@ -208,6 +251,30 @@ fn last_of(keys: &KeyList) -> &[u8]
     ensures { (before behind : List model.Entry) → 0 < length behind → keys_of (before ++ behind) ≡ keys.now → result.now ≡ last_key behind }
 {
     keys.get(keys.len() - 1)
+}
+
+// Whether each range begins at one of some keys.
+fn all_begin(ranges: &Ranges, keys: &KeyList) -> bool
+    ensures { (entries : List model.Entry) → result ≡ true → keys_of entries ≡ keys.now → AllByRecursion (BeginsAtOne entries) ranges.now.ranges }
+{
+    for i in 0..ranges.len() {
+        if !has_key(keys, ranges.get(i).0) {
+            return false;
+        }
+    }
+    true
+}
+
+// Whether a key is one of some.
+fn has_key(keys: &KeyList, key: &[u8]) -> bool
+    ensures { (entries : List model.Entry) → result ≡ true → keys_of entries ≡ keys.now → lookup entries key.now ≢ None }
+{
+    for i in 0..keys.len() {
+        if keys.get(i) == key {
+            return true;
+        }
+    }
+    false
 }
 
 // Adds a key. Many keys are numbers of eight bytes: these are moved at once, with no call.

@@ -2,8 +2,8 @@
 ghost use Rattle.std.specs.Prelude.{◌≡◌, ◌+◌, ◌-◌, ◌≤◌, ◌<◌, ◌^◌, ◌++◌, length, take, flat_map, Some, None, IfOk, IfErr, OnOk};
 ghost use Rattle.key_base.specs.Limits.{max_block_pages};
 ghost use Rattle.table_file.specs.Walks.{most_block_pages};
-ghost use Rattle.block_model.specs.Index.{IsIndex, index_bytes, index_row_bytes, row_pages};
-ghost use Rattle.block_model.specs.IndexReading.{index_fault, index_in, rows_fault, rows_in};
+ghost use Rattle.block_model.specs.Index.{IsIndex, index_bytes, index_row_bytes, magic_for, row_pages};
+ghost use Rattle.block_model.specs.IndexReading.{index_fault, index_in, rows_fault, rows_in, rows_width_in};
 ghost use Rattle.block_model.specs.Order.{Follow, is_any, is_from};
 ghost use Rattle.std.specs.List.{position_or_len};
 ghost use Rattle.table_file.specs.Search.{block_of_key, row_at};
@@ -12,9 +12,11 @@ ghost use Rattle.table_file.specs.Faults.{IsIndexFault, IsPlaceWithin};
 
 use crate::block_row::BlockRow;
 use crate::index_order::BeforeLast;
-use crate::index_row::{MAGIC, read_head, read_row};
+use crate::index_ranges::{push_ranges, read_ranges};
+use crate::index_row::{MAGIC, RANGES_MAGIC, read_head, read_row};
 use byte_fields::{PartFault, push_fields};
 use key_base::compare;
+use range_tombs::Ranges;
 use std::alloc::{AllocError, Global};
 use std::marker::Model;
 
@@ -24,19 +26,17 @@ const HEAD_WIDTHS: [usize; 3] = [4, 4, 2];
 // The pages and the sum of a block, and the length of its last key.
 const ROW_WIDTHS: [usize; 3] = [4, 8, 2];
 
-// Bytes are left after the last row.
-const BYTES_LEFT: u8 = 7;
-
 // The blocks have other pages than the table.
 const OTHER_PAGES: u8 = 8;
 
-/// The least key of a table, and what is kept of each of its blocks.
+/// The least key of a table, what is kept of each of its blocks, and its deleted ranges.
 #[derive(Drop)]
 pub(crate) struct BlockIndex {
     least: Vec<u8>,
     rows: Vec<BlockRow>,
     // the most pages of one of them
     most: u32,
+    ranges: Ranges,
 }
 
 impl Model for BlockIndex {
@@ -47,9 +47,9 @@ impl Model for BlockIndex {
 
     ghost Value = { Index };
 
-    ghost view = { λ x. record { least = x.least.items; rows = rows_seen x.rows.items } };
+    ghost view = { λ x. record { least = x.least.items; rows = rows_seen x.rows.items; ranges = x.ranges.ranges } };
 
-    ghost invariant = { λ x. IsIndex (row_pages (rows_seen x.rows.items)) (record { least = x.least.items; rows = rows_seen x.rows.items }) × StandFrom 0 x.rows.items
+    ghost invariant = { λ x. IsIndex (row_pages (rows_seen x.rows.items)) (record { least = x.least.items; rows = rows_seen x.rows.items; ranges = x.ranges.ranges }) × StandFrom 0 x.rows.items
         × (x.most ≡ most_block_pages (rows_seen x.rows.items)) };
 }
 
@@ -67,13 +67,15 @@ impl BlockIndex {
         ensures index { IfOk result (λ x. x ≡ index_in bytes.now) }
     {
         let head = read_head(bytes)?;
-        let (rows, all) = read_rows(
+        let (rows, all, width) = read_rows(
             alloc,
             &bytes[head.width..],
             head.width,
             head.count,
             head.least,
         )?;
+        let end = head.width + width;
+        let ranges = read_ranges(alloc, &bytes[end..], end, head.has_ranges)?;
         if all != u64::from(pages) {
             return Err(PartFault::Shape {
                 place: 4,
@@ -82,17 +84,34 @@ impl BlockIndex {
         }
         let least = Vec::from_slice(alloc, head.least)?;
         let most = most_pages(rows.as_slice());
-        Ok(BlockIndex { least, rows, most })
+        Ok(BlockIndex {
+            least,
+            rows,
+            most,
+            ranges,
+        })
     }
 
-    /// The index with this least key and these rows, whose blocks are one after the other.
-    pub(crate) fn new(least: Vec<u8>, rows: Vec<BlockRow>) -> BlockIndex
-        requires sound { IsIndex (row_pages (rows_seen rows.items)) (record { least = least.items; rows = rows_seen rows.items }) }
+    /// The index with this least key, these rows, whose blocks are one after the other, and these ranges.
+    pub(crate) fn new(least: Vec<u8>, rows: Vec<BlockRow>, ranges: Ranges) -> BlockIndex
+        requires sound { IsIndex (row_pages (rows_seen rows.items)) (record { least = least.items; rows = rows_seen rows.items; ranges = ranges.ranges }) }
         requires stand { StandFrom 0 rows.items }
-        ensures { result ≡ record { least = least.items; rows = rows_seen rows.items } }
+        ensures { result ≡ record { least = least.items; rows = rows_seen rows.items; ranges = ranges.ranges } }
     {
         let most = most_pages(rows.as_slice());
-        BlockIndex { least, rows, most }
+        BlockIndex {
+            least,
+            rows,
+            most,
+            ranges,
+        }
+    }
+
+    /// The ranges of keys that the table deletes.
+    pub(crate) fn ranges(&self) -> &Ranges
+        ensures { result.now.ranges ≡ self.now.ranges }
+    {
+        &self.ranges
     }
 
     /// The block that may have a key: the first whose last key is not below it, and none below the least key.
@@ -164,7 +183,7 @@ impl BlockIndex {
         push_fields(
             &HEAD_WIDTHS,
             &[
-                u64::from(MAGIC),
+                u64::from(self.magic()),
                 self.rows.len() as u64,
                 self.least.len() as u64,
             ],
@@ -172,7 +191,19 @@ impl BlockIndex {
         )?;
         out.extend_from_slice(self.least.as_slice())?;
         push_rows(self.rows.as_slice(), &mut out)?;
+        push_ranges(&self.ranges, &mut out)?;
         Ok(out)
+    }
+
+    // The magic that its bytes begin with.
+    fn magic(&self) -> u32
+        ensures { result ≡ magic_for self.now.ranges }
+    {
+        if self.ranges.is_empty() {
+            MAGIC
+        } else {
+            RANGES_MAGIC
+        }
     }
 }
 
@@ -212,15 +243,15 @@ fn push_rows(rows: &[BlockRow], out: &mut Vec<u8>) -> Result<(), AllocError>
     Ok(())
 }
 
-// A given number of rows that fill these bytes, after the least key of their table, and the pages of all blocks. The bytes begin at
-// a place of their index.
+// A given number of rows that these bytes begin with, after the least key of their table, the pages of all blocks, and how many
+// bytes the rows take. The bytes begin at a place of their index.
 fn read_rows(
     alloc: Global,
     bytes: &[u8],
     place: usize,
     count: u32,
     least: &[u8],
-) -> Result<(Vec<BlockRow>, u64), PartFault>
+) -> Result<(Vec<BlockRow>, u64, usize), PartFault>
     requires { place + length bytes.now < 2 ^ 64 }
     ensures broken { IfErr result (IsIndexFault (rows_fault count place (is_from least.now) bytes.now)) }
     ensures place { IfErr result (IsPlaceWithin (place + length bytes.now)) }
@@ -228,6 +259,8 @@ fn read_rows(
     ensures rows { IfOk result (λ found. rows_seen found.0.items ≡ rows_in count bytes.now) }
     ensures pages { IfOk result (λ found. found.1 ≡ row_pages (rows_seen found.0.items)) }
     ensures stand { IfOk result (λ found. StandFrom 0 found.0.items) }
+    ensures width { IfOk result (λ found. found.2 ≡ rows_width_in count bytes.now) }
+    ensures within { IfOk result (λ found. found.2 ≤ length bytes.now) }
 {
     let mut rows = Vec::new(alloc);
     let mut at = 0;
@@ -246,11 +279,5 @@ fn read_rows(
         first += u64::from(row.pages);
         at += row.width;
     }
-    if at < bytes.len() {
-        return Err(PartFault::Shape {
-            place: place + at,
-            rule: BYTES_LEFT,
-        });
-    }
-    Ok((rows, first))
+    Ok((rows, first, at))
 }

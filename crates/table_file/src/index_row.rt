@@ -1,7 +1,7 @@
 //! One row of an index, in the bytes that begin with it, and the head before the rows.
 ghost use Rattle.std.specs.Prelude.{◌≡◌, ◌≤◌, ◌<◌, ◌+◌, ◌^◌, length, None, IfOk, IfErr};
 ghost use Rattle.key_base.specs.Limits.{max_block_pages};
-ghost use Rattle.block_model.specs.IndexReading.{head_width_in, index_head_fault, last_in, least_in, pages_in, row_fault, row_width_in, rows_count_in, sum_in};
+ghost use Rattle.block_model.specs.IndexReading.{has_ranges_in, head_width_in, index_head_fault, last_in, least_in, pages_in, row_fault, row_width_in, rows_count_in, sum_in};
 ghost use Rattle.table_file.specs.Faults.{IsShape, IsPlaceWithin};
 ghost use Rattle.table_file.specs.BeforeLast.{passes};
 
@@ -12,14 +12,17 @@ use key_base::{MAX_BLOCK_PAGES, MAX_KEY_BYTES};
 /// `SRFI`.
 pub(crate) const MAGIC: u32 = 0x49465253;
 
+/// `SRFJ`, of an index that has ranges.
+pub(crate) const RANGES_MAGIC: u32 = 0x4A465253;
+
 // The bytes of the head before the least key.
 const HEAD_BYTES: usize = 10;
 
 // The bytes of a row before the last key.
 const ROW_BYTES: usize = 14;
 
-// A field runs past the end.
-const PAST_THE_END: u8 = 1;
+/// A field runs past the end.
+pub(crate) const PAST_THE_END: u8 = 1;
 
 const NO_MAGIC: u8 = 2;
 
@@ -35,9 +38,13 @@ const NOT_ABOVE: u8 = 5;
 // No pages, or more than a block takes.
 const NO_PAGES: u8 = 6;
 
-/// The head of an index: how many rows follow, the least key, and how many bytes it takes.
+/// Bytes are left at the end.
+pub(crate) const BYTES_LEFT: u8 = 7;
+
+/// The head of an index: whether ranges come after the rows, how many rows follow, the least key, and how many bytes it takes.
 #[derive(Clone, Copy)]
 pub(crate) struct Head<'a> {
+    pub has_ranges: bool,
     pub count: u32,
     pub least: &'a [u8],
     pub width: usize,
@@ -58,6 +65,7 @@ pub(crate) fn read_head(bytes: &[u8]) -> Result<Head<'_>, PartFault>
     ensures broken { IfErr result (IsShape (index_head_fault bytes.now)) }
     ensures place { IfErr result (IsPlaceWithin (length bytes.now)) }
     ensures whole { IfOk result (λ _. index_head_fault bytes.now ≡ None) }
+    ensures has { IfOk result (λ h. h.has_ranges ≡ has_ranges_in bytes.now) }
     ensures count { IfOk result (λ h. h.count ≡ rows_count_in bytes.now) }
     ensures least { IfOk result (λ h. h.least.now ≡ least_in bytes.now) }
     ensures width { IfOk result (λ h. h.width ≡ head_width_in bytes.now) }
@@ -72,7 +80,8 @@ pub(crate) fn read_head(bytes: &[u8]) -> Result<Head<'_>, PartFault>
     if bytes.len() < width {
         return Err(shape(bytes.len(), PAST_THE_END));
     }
-    if get_u32(bytes, 0) != MAGIC {
+    let magic = get_u32(bytes, 0);
+    if magic != MAGIC && magic != RANGES_MAGIC {
         return Err(shape(0, NO_MAGIC));
     }
     if count == 0 {
@@ -82,6 +91,7 @@ pub(crate) fn read_head(bytes: &[u8]) -> Result<Head<'_>, PartFault>
         return Err(shape(8, OUT_OF_LIMITS));
     }
     Ok(Head {
+        has_ranges: magic == RANGES_MAGIC,
         count,
         least: &bytes[HEAD_BYTES..width],
         width,
@@ -133,7 +143,8 @@ pub(crate) fn read_row<'a>(
     })
 }
 
-fn shape(place: usize, rule: u8) -> PartFault
+/// A rule that is broken at a place.
+pub(crate) fn shape(place: usize, rule: u8) -> PartFault
     ensures { result ≡ PartFault.Shape place rule }
 {
     PartFault::Shape { place, rule }

@@ -32,6 +32,7 @@ mod cursor;
 mod fault;
 mod index;
 mod index_order;
+mod index_ranges;
 mod index_row;
 pub mod laws;
 mod opening;

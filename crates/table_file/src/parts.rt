@@ -2,16 +2,16 @@
 ghost use Rattle.std.specs.Prelude.{◌≡◌, ◌+◌, ◌≤◌, List, IfOk};
 ghost use Rattle.entry_model.specs.Entries.{keys_of};
 ghost use Rattle.block_model.specs.Block.{IsTable, data_bytes};
-ghost use Rattle.block_model.specs.Index.{index_of};
+ghost use Rattle.block_model.specs.Index.{AreIndexRanges, index_with};
 ghost use Rattle.block_model.specs.Laws.{joined};
 ghost use Rattle.filter_api.specs.Ranges.{InRange};
-ghost use Rattle.table_model.specs.Tables.{filter_bytes_of, table_pages};
+ghost use Rattle.table_model.specs.Tables.{filter_bytes_of, source_pages};
 ghost use Rattle.table_model.specs.Written.{ArePartsShown};
 ghost use Rattle.disk_trait.specs.Image.{Image};
 ghost use Rattle.key_base.specs.Limits.{max_device_pages};
 ghost use Rattle.block_model.specs.Places.{end_page};
 ghost use Rattle.table_file.specs.Writing.{made_filter, made_row};
-ghost use Rattle.table_file.specs.Building.{closed_in};
+ghost use Rattle.table_file.specs.Building.{closed_in, source_in};
 
 use crate::index::BlockIndex;
 use crate::padded::Padded;
@@ -22,7 +22,7 @@ use key_base::{KeyList, PAGE_BYTES};
 use std::alloc::{AllocError, Global};
 use std::marker::Model;
 
-/// The blocks, the index and the filter of a table, seen as its entries and the settings of its filter.
+/// The blocks, the index and the filter of a table, seen as its entries, its ranges and the settings of its filter.
 #[derive(Drop)]
 pub struct Parts<F: RangeFilter> {
     pub(crate) settings: Settings,
@@ -41,9 +41,9 @@ impl<F: RangeFilter> Model for Parts<F> {
 
     ghost Value = { Built };
 
-    ghost view = { λ p. record { settings = p.settings; entries = joined (closed_in p.index.rows p.blocks.items) } };
+    ghost view = { λ p. record { settings = p.settings; entries = joined (closed_in p.index.rows p.blocks.items); ranges = p.index.ranges } };
 
-    ghost invariant = { λ p. ArePartsOf F.spelling F.built_cutoff p.settings (joined (closed_in p.index.rows p.blocks.items))
+    ghost invariant = { λ p. ArePartsOf F.spelling F.built_cutoff p.settings (record { entries = joined (closed_in p.index.rows p.blocks.items); ranges = p.index.ranges })
         p.entries p.blocks.items p.index p.index_part
         (record { hash_bits = F.hash_bits p.filter; real_bits = F.real_bits p.filter; cutoff = F.cutoff p.filter; leaves = F.leaf_list p.filter }) p.filter_part };
 }
@@ -60,9 +60,10 @@ impl<F: RangeFilter> Parts<F> {
         requires range { InRange settings }
         requires table { IsTable (joined (closed_in index.rows blocks.items)) }
         requires blocks { blocks.items ≡ data_bytes (joined (closed_in index.rows blocks.items)) }
-        requires index { index ≡ index_of (joined (closed_in index.rows blocks.items)) }
+        requires index { index ≡ index_with (joined (closed_in index.rows blocks.items)) index.ranges }
+        requires ranges { AreIndexRanges index.ranges }
         requires keys { keys.now ≡ keys_of (joined (closed_in index.rows blocks.items)) }
-        ensures { IfOk result (λ p. p ≡ record { settings = settings; entries = joined (closed_in index.rows blocks.items) }) }
+        ensures { IfOk result (λ p. p ≡ record { settings = settings; entries = joined (closed_in index.rows blocks.items); ranges = index.ranges }) }
     {
         let filter = F::build(alloc, keys, settings)?;
         let index_part = Padded::new(index.bytes(alloc)?)?;
@@ -84,9 +85,9 @@ impl<F: RangeFilter> Parts<F> {
     /// the largest device.
     ///
     /// It sums the bytes of index and filter.
-    #[tactic(auto, unfolding(table_model::specs::Written::row_for))]
+    #[tactic(auto, unfolding(table_model::specs::Written::row_from))]
     pub fn row(&self, level: u8, first_page: u32) -> Row
-        requires { first_page + table_pages (filter_bytes_of F.spelling F.built_cutoff) self.now.settings self.now.entries ≤ max_device_pages }
+        requires { first_page + source_pages (filter_bytes_of F.spelling F.built_cutoff) self.now.settings (source_in self.now) ≤ max_device_pages }
         ensures { result ≡ made_row F.spelling F.built_cutoff self.now level first_page }
     {
         Row {
@@ -117,8 +118,8 @@ impl<F: RangeFilter> Parts<F> {
         requires row { row ≡ made_row F.spelling F.built_cutoff self row.level row.first_page }
         requires within { end_page row ≤ max_device_pages }
         ensures table { result ≡ opened_of F.built_cutoff self row }
-        ensures opened { (image : Image) → ArePartsShown row self.entries (made_filter F.spelling F.built_cutoff self) image → IsOpen F.spelling result image }
-        ensures stands { (image : Image) → ArePartsShown row self.entries (made_filter F.spelling F.built_cutoff self) image
+        ensures opened { (image : Image) → ArePartsShown row (source_in self) (made_filter F.spelling F.built_cutoff self) image → IsOpen F.spelling result image }
+        ensures stands { (image : Image) → ArePartsShown row (source_in self) (made_filter F.spelling F.built_cutoff self) image
             → StandsWith F.spelling result self.entries image }
     {
         let Parts { index, filter, .. } = self;
@@ -128,7 +129,7 @@ impl<F: RangeFilter> Parts<F> {
 
 /// How many pages a table of these parts takes.
 pub fn pages_of<F: RangeFilter>(parts: &Parts<F>) -> u64
-    ensures { result ≡ table_pages (filter_bytes_of F.spelling F.built_cutoff) parts.now.settings parts.now.entries }
+    ensures { result ≡ source_pages (filter_bytes_of F.spelling F.built_cutoff) parts.now.settings (source_in parts.now) }
 {
     (parts.blocks.len() / PAGE_BYTES) as u64 + parts.index_part.pages() + parts.filter_part.pages()
 }

@@ -10,6 +10,7 @@ use crate::table::Table;
 use byte_fields::Row;
 use filter_api::RangeFilter;
 use key_base::PAGE_BYTES;
+use range_tombs::Ranges;
 use std::marker::Model;
 
 /// The index of a table in memory, with the table's row.
@@ -59,6 +60,13 @@ impl Index {
         ensures { result.now ≡ self.now.index.least }
     {
         self.blocks.least()
+    }
+
+    /// The ranges of keys that the table deletes in older ones.
+    pub fn ranges(&self) -> &Ranges
+        ensures { result.now.ranges ≡ self.now.index.ranges }
+    {
+        self.blocks.ranges()
     }
 
     /// The last key of the block number `n`.

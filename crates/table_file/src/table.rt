@@ -31,6 +31,7 @@ use byte_fields::{Damage, Part, Row, fnv1a};
 use disk_trait::{Disk, DiskFault};
 use filter_api::RangeFilter;
 use key_base::{MAX_BLOCK_PAGES, PAGE_BYTES};
+use range_tombs::Ranges;
 use std::alloc::{AllocError, Global};
 use std::marker::Model;
 
@@ -118,6 +119,13 @@ impl<F: RangeFilter> Table<F> {
         ensures few { result ≤ max_block_pages }
     {
         self.index.most_pages()
+    }
+
+    /// The ranges of keys that the table deletes in older ones. They are kept in memory.
+    pub fn ranges(&self) -> &Ranges
+        ensures { result.now.ranges ≡ self.now.index.ranges }
+    {
+        self.index.ranges()
     }
 
     /// How many blocks it has, numbered from 0.

@@ -5,7 +5,8 @@ ghost use Rattle.block_model.specs.Pages.{page_bytes};
 ghost use Rattle.key_base.specs.Limits.{max_device_pages};
 ghost use Rattle.block_model.specs.Places.{byte_of_page, filter_page, index_page};
 ghost use Rattle.table_model.specs.Images.{IsTableOf};
-ghost use Rattle.table_model.specs.Tables.{filter_bytes_of, table_of, table_pages};
+ghost use Rattle.table_model.specs.Tables.{filter_bytes_of, source_pages, table_from};
+ghost use Rattle.table_file.specs.Building.{source_in};
 ghost use Rattle.table_file.specs.Writing.{AreWritten, IsWriteOf, StandsWith, made_filter, made_row, opened_of, three_written};
 
 use crate::parts::Parts;
@@ -23,15 +24,15 @@ pub fn write_parts<F: RangeFilter, D: Disk>(
     first_page: u32,
     parts: &Parts<F>,
 ) -> Result<(), DiskFault>
-    requires { first_page + table_pages (filter_bytes_of F.spelling F.built_cutoff) parts.now.settings parts.now.entries ≤ max_device_pages }
+    requires { first_page + source_pages (filter_bytes_of F.spelling F.built_cutoff) parts.now.settings (source_in parts.now) ≤ max_device_pages }
     ensures written { (level : ℕ) → IsTrue D.tells → OnOk result (Now (AreWritten (made_row F.spelling F.built_cutoff parts.now level first_page)
-        parts.now.entries (made_filter F.spelling F.built_cutoff parts.now)) (D.world disk.new)) }
+        (source_in parts.now) (made_filter F.spelling F.built_cutoff parts.now)) (D.world disk.new)) }
     ensures table { (level : ℕ) → IsTrue D.tells → OnOk result (Now (IsTableOf F.spelling
         (made_row F.spelling F.built_cutoff parts.now level first_page)
-        (table_of (filter_bytes_of F.spelling F.built_cutoff) parts.now.settings level first_page parts.now.entries)) (D.world disk.new)) }
+        (table_from (filter_bytes_of F.spelling F.built_cutoff) parts.now.settings level first_page (source_in parts.now))) (D.world disk.new)) }
     ensures stands { (level : ℕ) → IsTrue D.tells → OnOk result (Now (StandsWith F.spelling
         (opened_of F.built_cutoff parts.now (made_row F.spelling F.built_cutoff parts.now level first_page)) parts.now.entries) (D.world disk.new)) }
-    ensures moves { WriteMoves (byte_of_page first_page) (page_bytes * table_pages (filter_bytes_of F.spelling F.built_cutoff) parts.now.settings parts.now.entries) (D.world disk.old) (D.world disk.new) }
+    ensures moves { WriteMoves (byte_of_page first_page) (page_bytes * source_pages (filter_bytes_of F.spelling F.built_cutoff) parts.now.settings (source_in parts.now)) (D.world disk.old) (D.world disk.new) }
     ensures fault { (level : ℕ) → IfErr result (IsWriteOf (byte_of_page first_page)
         (byte_of_page (index_page (made_row F.spelling F.built_cutoff parts.now level first_page)))
         (byte_of_page (filter_page (made_row F.spelling F.built_cutoff parts.now level first_page)))) }

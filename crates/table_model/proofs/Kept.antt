@@ -42,8 +42,9 @@ at_kept spelling row blocks at n f g apart torn t = record {
   data_pages = t.data_pages;
   index_pages = t.index_pages;
   filter_pages = t.filter_pages;
+  ranges = t.ranges;
   index_sound = t.index_sound;
-  index = part_kept (index_page row) row.index_len row.index_sum (index_bytes (index_of_pieces t.pieces)) at n f g (index_apart row at n apart t.index_pages) torn t.index;
+  index = part_kept (index_page row) row.index_len row.index_sum (index_bytes (index_of_pieces t.pieces t.ranges)) at n f g (index_apart row at n apart t.index_pages) torn t.index;
   filter_bytes = t.filter_bytes;
   filter_of_keys = t.filter_of_keys;
   filter = part_kept (filter_page row) row.filter_len row.filter_sum t.filter_bytes at n f g (filter_apart row at n apart t.filter_pages) torn t.filter;
@@ -55,5 +56,11 @@ pub kept_pieces : (spelling : Spelling) (row : Row) (blocks : List (List Entry))
 unfolding at_kept
 kept_pieces spelling row blocks at n f g apart torn t = refl
 
+pub kept_ranges : (spelling : Spelling) (row : Row) (blocks : List (List Entry)) (at n : ℕ) (f g : Image) (apart : IsApartFromRow at n row) (torn : Torn at n f g)
+    (t : IsTableAt spelling row blocks f) → (at_kept spelling row blocks at n f g apart torn t).ranges ≡ t.ranges
+unfolding at_kept
+kept_ranges spelling row blocks at n f g apart torn t = refl
+
 pub table_kept : TableIsKept
+unfolding at_kept
 table_kept spelling row t at n f g apart torn is = (is.0, at_kept spelling row is.0 at n f g apart torn is.1, is.2)

@@ -7,6 +7,7 @@ use Rattle.std.proofs.lemmas.List.Sums.{sum_by-cons}
 use Rattle.byte_fields.specs.Sums.{fnv_of}
 use Rattle.map_model.specs.SortedMap.{Bytes}
 use Rattle.entry_model.specs.Entries.{Entry}
+use Rattle.range_model.specs.Ranges.{DeletedRange}
 use Rattle.block_model.specs.Block.{IsBlock, block_bytes}
 use Rattle.block_model.specs.BlockReading.{block_fault, block_in, header_fault_by, used_in}
 use Rattle.block_model.specs.Formats.{Format, Prefixed, format_in}
@@ -51,13 +52,17 @@ pub row_last : (piece : Bytes) → (row_of_piece piece).last ≡ last_key (block
 unfolding row_of_piece
 row_last piece = refl
 
-pub rows_of_index : (pieces : List Bytes) → (index_of_pieces pieces).rows ≡ map row_of_piece pieces
+pub rows_of_index : (pieces : List Bytes) (ranges : List DeletedRange) → (index_of_pieces pieces ranges).rows ≡ map row_of_piece pieces
 unfolding index_of_pieces
-rows_of_index pieces = refl
+rows_of_index pieces ranges = refl
 
-pub least_of_index : (pieces : List Bytes) → (index_of_pieces pieces).least ≡ first_key (joined (blocks_in pieces))
+pub least_of_index : (pieces : List Bytes) (ranges : List DeletedRange) → (index_of_pieces pieces ranges).least ≡ first_key (joined (blocks_in pieces))
 unfolding index_of_pieces
-least_of_index pieces = refl
+least_of_index pieces ranges = refl
+
+pub ranges_of_index : (pieces : List Bytes) (ranges : List DeletedRange) → (index_of_pieces pieces ranges).ranges ≡ ranges
+unfolding index_of_pieces
+ranges_of_index pieces ranges = refl
 
 -- ---- a block that is written is a piece
 

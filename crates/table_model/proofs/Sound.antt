@@ -39,16 +39,16 @@ part_sound p at kept bytes fault same none =
 -- ---- the index
 
 module _ (spelling : Spelling) (row : Row) (blocks : List (List Entry)) (image : Image) (t : IsTableAt spelling row blocks image) where
-  index_there : index_part row image ≡ index_bytes (index_of_pieces t.pieces)
-  index_there = shown_is (byte_of_page (index_page row)) row.index_len (index_bytes (index_of_pieces t.pieces)) image t.index.size t.index.shown
+  index_there : index_part row image ≡ index_bytes (index_of_pieces t.pieces t.ranges)
+  index_there = shown_is (byte_of_page (index_page row)) row.index_len (index_bytes (index_of_pieces t.pieces t.ranges)) image t.index.size t.index.shown
 
   index_sound : index_damage row image ≡ None
   index_sound = part_sound part.Index (byte_of_page (index_page row)) row.index_sum (index_part row image) (index_fault row.data_pages (index_part row image))
       (sym t.index.sum ∙ ap fnv_of (sym index_there))
-      (ap (index_fault row.data_pages) index_there ∙ (index_again row.data_pages (index_of_pieces t.pieces) t.index_sound).0)
+      (ap (index_fault row.data_pages) index_there ∙ (index_again row.data_pages (index_of_pieces t.pieces t.ranges) t.index_sound).0)
 
-  pub index_read : index_in (index_part row image) ≡ index_of_pieces t.pieces
-  index_read = ap index_in index_there ∙ (index_again row.data_pages (index_of_pieces t.pieces) t.index_sound).1
+  pub index_read : index_in (index_part row image) ≡ index_of_pieces t.pieces t.ranges
+  index_read = ap index_in index_there ∙ (index_again row.data_pages (index_of_pieces t.pieces t.ranges) t.index_sound).1
 
   filter_there : filter_part row image ≡ t.filter_bytes
   filter_there = shown_is (byte_of_page (filter_page row)) row.filter_len t.filter_bytes image t.filter.size t.filter.shown
@@ -96,7 +96,7 @@ pieces_sound page (piece ∷ later) image each shown =
 pub blocks_have_none : BlocksHaveNone
 blocks_have_none spelling row blocks image t =
     subst (λ (rows : List IndexRow). AreSoundBlocks row.first_page rows image)
-    (sym (ap (λ (i : Index). i.rows) (index_read spelling row blocks image t) ∙ rows_of_index t.pieces))
+    (sym (ap (λ (i : Index). i.rows) (index_read spelling row blocks image t) ∙ rows_of_index t.pieces t.ranges))
     (pieces_sound row.first_page t.pieces image t.each t.blocks_shown)
 
 -- ---- the filter: one damage, or none

@@ -16,15 +16,16 @@ use Rattle.entry_model.specs.Entries.{Entry, keys_of}
 use Rattle.block_model.specs.Block.{IsTable}
 use Rattle.block_model.specs.BlockReading.{block_fault}
 use Rattle.byte_fields.specs.Faults.{Fault}
-use Rattle.block_model.specs.Index.{IndexRow}
+use Rattle.range_model.specs.Sources.{Source}
+use Rattle.block_model.specs.Index.{AreIndexRanges, IndexRow}
 use Rattle.block_model.specs.IndexReading.{index_fault, index_in}
 use Rattle.block_model.specs.Laws.{joined}
 use Rattle.block_model.specs.Pages.{page_bytes}
 use Rattle.block_model.specs.Places.{byte_of_page, filter_page, index_page, pages_of}
 use Rattle.table_model.specs.Damage.{IsOfBytes, AreSoundBlocks, HasWidths, IsFilterDamage, IsSoundFilter, block_damage, block_part, filter_part, index_damage, index_part}
 use Rattle.table_model.specs.Images.{IsFilterOfKeys, IsTableAt, IsTableOf}
-use Rattle.table_model.specs.Tables.{FilterBytes, Table, table_of}
-use Rattle.table_model.specs.Written.{ArePartsShown, row_for}
+use Rattle.table_model.specs.Tables.{FilterBytes, Table, table_from}
+use Rattle.table_model.specs.Written.{ArePartsShown, row_from}
 
 -- the pages of a row spell one table
 abbrev pub OneTable : Type 0
@@ -32,13 +33,14 @@ OneTable =
     (spelling : Spelling) (row : Row) (t u : Table) (image : Image)
     → IsTableOf spelling row t image → IsTableOf spelling row u image → t ≡ u
 
--- where the parts of a table of some entries lie, its row's pages spell the table that is made of them
+-- where the parts of a table of some entries and ranges lie, its row's pages spell the table that is made of them
 abbrev pub TableStands : Type 0
 TableStands =
-    (spelling : Spelling) (filter_bytes : FilterBytes) (settings : Settings) (level first_page : ℕ) (entries : List Entry) (image : Image) → IsTable entries
-    → IsFilterOfKeys spelling settings (keys_of entries) (filter_bytes settings (keys_of entries))
-    → ArePartsShown (row_for level first_page settings entries (filter_bytes settings (keys_of entries))) entries (filter_bytes settings (keys_of entries)) image
-    → IsTableOf spelling (row_for level first_page settings entries (filter_bytes settings (keys_of entries))) (table_of filter_bytes settings level first_page entries) image
+    (spelling : Spelling) (filter_bytes : FilterBytes) (settings : Settings) (level first_page : ℕ) (s : Source) (image : Image) → IsTable s.entries
+    → AreIndexRanges s.ranges
+    → IsFilterOfKeys spelling settings (keys_of s.entries) (filter_bytes settings (keys_of s.entries))
+    → ArePartsShown (row_from level first_page settings s (filter_bytes settings (keys_of s.entries))) s (filter_bytes settings (keys_of s.entries)) image
+    → IsTableOf spelling (row_from level first_page settings s (filter_bytes settings (keys_of s.entries))) (table_from filter_bytes settings level first_page s) image
 
 -- ---- what is written apart from a row's pages, done or cut short
 

@@ -3,6 +3,7 @@ use Rattle.std.specs.Prelude.{◌≡◌, ℕ, List, length, map, flat_map, None}
 use Rattle.byte_fields.specs.Sums.{fnv_of}
 use Rattle.map_model.specs.SortedMap.{Bytes}
 use Rattle.entry_model.specs.Entries.{Entry}
+use Rattle.range_model.specs.Ranges.{DeletedRange}
 use Rattle.block_model.specs.Block.{IsBlock}
 use Rattle.block_model.specs.BlockReading.{block_fault, block_in}
 use Rattle.block_model.specs.Formats.{format_in}
@@ -29,6 +30,6 @@ piece_pages piece = pages_for (length piece)
 unfoldable pub row_of_piece : Bytes → IndexRow
 row_of_piece piece = record { pages = piece_pages piece; sum = fnv_of piece; last = last_key (block_in piece) }
 
--- the index of some pieces
-unfoldable pub index_of_pieces : List Bytes → Index
-index_of_pieces pieces = record { least = first_key (joined (blocks_in pieces)); rows = map row_of_piece pieces }
+-- the index of some pieces, and of ranges
+unfoldable pub index_of_pieces : List Bytes → List DeletedRange → Index
+index_of_pieces pieces ranges = record { least = first_key (joined (blocks_in pieces)); rows = map row_of_piece pieces; ranges = ranges }

@@ -1,11 +1,11 @@
 -- A table as a state has it, and the one that is made of some entries.
-use Rattle.std.specs.Prelude.{ℕ, ◌+◌, List, [], ◌∷◌, length, sum_by}
+use Rattle.std.specs.Prelude.{ℕ, ◌+◌, List, [], length}
 use Rattle.filter_api.specs.Spellings.{Spelling}
 use Rattle.filter_api.specs.declared.settings.Settings.{Settings}
 use Rattle.filter_model.specs.Leaves.{Leaf, leaves_of}
 use Rattle.map_model.specs.SortedMap.{Bytes}
 use Rattle.entry_model.specs.Entries.{Entry, keys_of}
-use Rattle.block_model.specs.Pages.{pages_for, blocks_of, data_pages, index_length}
+use Rattle.block_model.specs.Pages.{pages_for, blocks_of, data_pages, index_length, index_length_with}
 use Rattle.range_model.specs.Ranges.{DeletedRange}
 use Rattle.range_model.specs.Sources.{Source}
 
@@ -39,14 +39,7 @@ abbrev pub table_pages : FilterBytes → Settings → List Entry → ℕ
 table_pages filter_bytes settings entries =
     data_pages entries + pages_for (index_length entries) + pages_for (length (filter_bytes settings (keys_of entries)))
 
--- the bytes of the index of entries with ranges: where there are ranges it has their number, and for each of them its two keys
--- with their lengths
-abbrev pub index_length_with : List Entry → List DeletedRange → ℕ
-index_length_with entries [] = index_length entries
-index_length_with entries (range ∷ later) =
-    index_length entries + (4 + sum_by (λ (r : DeletedRange). 4 + length r.lo + length r.hi) (range ∷ later))
-
--- the pages of a table of these
+-- the pages of a table of entries with ranges
 abbrev pub source_pages : FilterBytes → Settings → Source → ℕ
 source_pages filter_bytes settings s =
     data_pages s.entries + pages_for (index_length_with s.entries s.ranges) + pages_for (length (filter_bytes settings (keys_of s.entries)))

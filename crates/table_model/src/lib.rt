@@ -1,8 +1,7 @@
 //! What a table is: its entries, the bytes of its pages on a device, and what may be wrong with them.
 //!
-//! `specs/Tables` says what a table is to a state, and which one is made of some entries and deleted ranges; no bytes hold a
-//! range yet. A row of the manifest says where a
-//! table's blocks, index and filter are there, and keeps the lengths and sums of the last two. `specs/Images` says which table
+//! `specs/Tables` says what a table is to a state, and which one is made of some entries and deleted ranges. A row of the
+//! manifest says where a table's blocks, index and filter are there, and keeps the lengths and sums of the last two. `specs/Images` says which table
 //! the pages of a row spell, `specs/Written` which row a table has that is written, and `specs/Damage` what is wrong with an
 //! index, a block or a filter: another sum than the kept one, or else the first rule that is broken, and where. The kind of
 //! filter is a parameter: how it spells, and the first fault of bytes that spell nothing.

@@ -36,7 +36,7 @@ fn built(alloc: Global) -> Result<TableBuilder, Fail> {
 // Its parts.
 fn parts_of(alloc: Global) -> Result<Result<Parts<PlainFilter>, AllocError>, Fail> {
     let builder = built(alloc)?;
-    if builder.is_empty() {
+    if builder.is_empty() || !builder.begins_at_keys() {
         return Err(Fail::from("no entries"));
     }
     Ok(builder.finish())

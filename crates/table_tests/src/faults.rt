@@ -18,7 +18,7 @@ fn parts(alloc: Global) -> Result<Parts<PlainFilter>, Fail> {
     let mut builder = TableBuilder::new(alloc, BASE);
     add(&mut builder, b"a", Some(b"b"))?;
     add(&mut builder, b"c", None)?;
-    if builder.is_empty() {
+    if builder.is_empty() || !builder.begins_at_keys() {
         return Err(Fail::from("no entries"));
     }
     Ok(builder.finish()?)

@@ -30,6 +30,8 @@ mod mixed;
 #[cfg(test)]
 mod prefixed;
 #[cfg(test)]
+mod ranges;
+#[cfg(test)]
 mod sizes;
 #[cfg(test)]
 mod spellings;

@@ -79,7 +79,7 @@ pub const FIRST_PAGE: u32 = 192;
 pub fn written(builder: TableBuilder, disk: &mut MemDisk) -> Result<(Parts<PlainFilter>, Row), Fail>
     ensures { IfOk result (λ w. FitsDevice w.1) }
 {
-    if builder.is_empty() {
+    if builder.is_empty() || !builder.begins_at_keys() {
         return Err(Fail::from("no entries"));
     }
     placed(builder.finish()?, disk, FIRST_PAGE)

@@ -53,7 +53,7 @@ fn add_said(builder: &mut TableBuilder, source: u8) -> Result<(), Fail> {
 fn parts_of(alloc: Global, source: u8) -> Result<Parts<PlainFilter>, Fail> {
     let mut builder = TableBuilder::new(alloc, BASE);
     add_said(&mut builder, source)?;
-    if builder.is_empty() {
+    if builder.is_empty() || !builder.begins_at_keys() {
         return Err(Fail::from("no entries"));
     }
     Ok(builder.finish()?)

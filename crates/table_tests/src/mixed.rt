@@ -120,7 +120,7 @@ const NEW: Option<&[u8]> = Some(b"new");
 fn newer(alloc: Global, disk: &mut MemDisk, i: u8) -> Result<Box<Table<PlainFilter>>, Fail> {
     let mut builder = TableBuilder::new(alloc, BASE);
     add(&mut builder, &key_of(u16::from(i)), NEW)?;
-    if builder.is_empty() {
+    if builder.is_empty() || !builder.begins_at_keys() {
         return Err(Fail::from("no entries"));
     }
     let row = row_at(builder.finish()?, disk, FIRST_PAGE + 64 * u32::from(i))?;
@@ -186,7 +186,7 @@ fn merged(alloc: Global, disk: &mut MemDisk) -> Result<Box<Table<PlainFilter>>, 
     let tables = tables_of(alloc, disk)?;
     let mut rows = rows_of(alloc, &tables, None, b"", false)?;
     let builder = built(alloc, &mut rows, disk, &tables)?;
-    if builder.is_empty() {
+    if builder.is_empty() || !builder.begins_at_keys() {
         return Err(Fail::from("no entries"));
     }
     let row = row_at(builder.finish()?, disk, MERGED_PAGE)?;

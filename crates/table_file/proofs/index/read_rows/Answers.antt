@@ -3,14 +3,14 @@ use Rattle.std.specs.Prelude.{None}
 use Rattle.std.proofs.lemmas.List.{take_rest, drop-drop}
 use Rattle.map_model.specs.SortedMap.{Bytes}
 use Rattle.block_model.specs.Index.{row_pages}
-use Rattle.block_model.specs.IndexReading.{last_in, pages_in, row_fault, row_in, row_width_in, rows_fault, rows_in, sum_in}
+use Rattle.block_model.specs.IndexReading.{last_in, pages_in, row_fault, row_in, row_width_in, rows_fault, rows_in, rows_width_in, sum_in}
 use Rattle.key_base.specs.ByteOrder.{is_before}
 use Rattle.block_model.specs.Order.{is_from}
 use Rattle.table_file.specs.BeforeLast.{passes}
 use Rattle.table_file.specs.BlockRows.{StandFrom, row_seen, rows_seen}
 use Rattle.table_file.specs.Faults.{IsIndexFault, IsShape}
 use Rattle.table_file.specs.declared.block_row.BlockRow.{BlockRow}
-use Rattle.table_file.proofs.IndexWalks.{all_read, next_broken, next_kept, next_read, none_is_left, pages_more, shape_first, some_are_left, stand_more}
+use Rattle.table_file.proofs.IndexWalks.{all_read, next_broken, next_kept, next_read, next_width, no_width, none_is_left, pages_more, shape_first, stand_more}
 use Rattle.table_file.proofs.index.read_rows.Goals as goal
 
 pub returns-in_err-row-clause-broken : goal.returns-in_err-row-clause-broken
@@ -64,24 +64,25 @@ loop-i-preserved c =
           ∙ ap (λ (k : ℕ). rows_seen (c.loop-i.rows.items ++ kept ∷ []) ++ rows_in (n - 1) (drop k here)) (sym width)
           ∙ ap₂ (λ (m : ℕ) (l : Bytes). rows_seen (c.loop-i.rows.items ++ kept ∷ []) ++ rows_in m l) fewer next
           ∙ ap (λ (rs : List BlockRow). rows_seen rs ++ rows_in (c.args.count - (c.loop-i.i + 1)) (drop (at + w) bytes)) (sym pushed);
+      width = c.loop-i.invariant.width
+          ∙ ap (λ (k : ℕ). at + k) (next_width n here (omega (arith, some)))
+          ∙ ap (λ (k : ℕ). at + (k + rows_width_in (n - 1) (drop k here))) (sym width)
+          ∙ ap₂ (λ (m : ℕ) (l : Bytes). at + (w + rows_width_in m l)) fewer next
+          ∙ omega arith;
       pages = omega (arith, c.from-first.ensures, c.loop-i.invariant.pages, pages_more c.loop-i.rows.items kept, ap (λ (rs : List BlockRow). row_pages (rows_seen rs)) pushed);
       stand = subst (StandFrom 0) (sym pushed) (stand_more 0 c.loop-i.rows.items kept c.loop-i.invariant.stand (omega (arith, c.loop-i.invariant.pages)));
       few = omega (arith, c.from-first.ensures, c.loop-i.invariant.few, c.in_ok-row.ensures.few);
     }
 
-pub returns-then-at-bytes-clause-broken : goal.returns-then-at-bytes-clause-broken
-returns-then-at-bytes-clause-broken c =
-    let bytes = c.args.bytes.now in
-    let at = c.loop-i.at in
-    c.loop-i.invariant.same
-    ∙ some_are_left (c.args.count - c.loop-i.i) (c.args.place + at) (passes c.loop-i.before) (drop at bytes) (omega (arith, c.loop-i-test.false)) (omega (arith, length-drop at bytes, c.if-at-bytes.true))
-
 pub returns-clause-whole : goal.returns-clause-whole
 returns-clause-whole c =
-    let bytes = c.args.bytes.now in
     let at = c.loop-i.at in
     c.loop-i.invariant.same
-    ∙ none_is_left (c.args.count - c.loop-i.i) (c.args.place + at) (passes c.loop-i.before) (drop at bytes) (omega (arith, c.loop-i-test.false)) (omega (arith, length-drop at bytes, c.if-at-bytes.false))
+    ∙ none_is_left (c.args.count - c.loop-i.i) (c.args.place + at) (passes c.loop-i.before) (drop at c.args.bytes.now) (omega (arith, c.loop-i-test.false))
+
+pub returns-clause-width : goal.returns-clause-width
+returns-clause-width c =
+    omega (arith, c.loop-i.invariant.width, no_width (c.args.count - c.loop-i.i) (drop c.loop-i.at c.args.bytes.now) (omega (arith, c.loop-i-test.false)))
 
 pub returns-clause-rows : goal.returns-clause-rows
 returns-clause-rows c =

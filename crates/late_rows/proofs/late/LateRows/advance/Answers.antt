@@ -16,6 +16,7 @@ use Rattle.late_rows.proofs.Composed.{fails_then, goes_then, reads_then}
 use Rattle.late_rows.proofs.Ending.{all_bounded, all_cause, all_counted, all_fault, all_late, all_left, all_met, all_owed, all_passed, all_row, all_spent, all_stays, all_tried, ok_from, on_err_then, some_from, sound_mid}
 use Rattle.late_rows.proofs.Going.{goes_memory, goes_same, goes_woken, reads_memory, reads_same, reads_woken}
 use Rattle.late_rows.proofs.Handing.{entry_row, goes_bounded, goes_opens, goes_stays, hands_out, least_row, next_of_some, none_before, none_below, opens_late, reads_most, ready_since, sleeps_above, some_row}
+use Rattle.late_rows.proofs.Pacing.{all_paced, paced_before}
 use Rattle.late_rows.specs.Going.{GoesOn, ReadsOn}
 use Rattle.late_rows.specs.Late.{IsNext, LateMerge, waking_at, wanted_awake}
 use Rattle.late_rows.specs.Opening.{SleepAbove}
@@ -55,6 +56,7 @@ returns-then-comes_before g c =
       late = opens_late tells tables key first old new before after goes asleep next.2 ready clear still steps keeps;
       row = hands_out tells tables key first old new before after goes asleep next.2 ready clear still steps keeps;
       stays = tt;
+      paced = λ t. paced_before tells tables first old new before after goes asleep steps.walks (ready t) clear t;
       sound = entry_row tells tables key first old new before after goes asleep next.2 ready clear still steps;
       above = sleeps_above tells tables key first old new before after goes asleep next.2 ready clear still steps;
       least = least_row tells tables key first old new before after goes asleep next.2 ready clear still steps;
@@ -135,6 +137,7 @@ returns-in-Err g c =
       late = goes_opens tells tables first new before after goes keeps;
       row = tt;
       stays = goes_stays tells tables first new before after goes keeps fails.none;
+      paced = λ t. tt;
       sound = tt;
       above = tt;
       least = tt;
@@ -188,6 +191,7 @@ returns g c =
       late = all_late tells tables first now next before mid after goes reads awake keeps a.kept;
       row = on_ok_then result _ _ a.row (all_row tells tables first now next before mid after goes reads awake keeps);
       stays = on_err_then result _ _ a.stays (all_stays tells tables first now next before mid after goes reads awake keeps);
+      paced = λ t. on_ok_then result _ _ (a.caught_up_past t whole) (λ paced. all_paced tells tables first now next before mid goes paced t);
       sound = a.sound;
       above = ok_from result _ (some_from next.now (λ row. SleepAbove row.key now.asleep) (λ row at other is. no_key other (sym (awake at) ∙ is)));
       least = a.least;

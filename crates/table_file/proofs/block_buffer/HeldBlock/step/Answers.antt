@@ -1,6 +1,5 @@
-use Rattle.std.proofs.Common.{◌≡◌, ◌++◌, ◌∙◌, length, take, drop, sym, ap, subst, arith}
-use Rattle.std.specs.List.{AllByRecursion}
-use Rattle.block_format.specs.Walking.{key_held, walked}
+use Rattle.std.proofs.Common.{◌≡◌, ◌++◌, ◌∙◌, length, take, drop, ap, arith}
+use Rattle.block_format.specs.Walking.{key_held}
 use Rattle.block_format.proofs.AtHand.{is_at_hand}
 use Rattle.table_file.specs.Walks.{BlockInHand, first_of, others_of}
 use Rattle.table_file.proofs.Helds.{IsStep, filled, stepped}

@@ -56,7 +56,7 @@ invariant_of-self-in-Ok-true c =
     let added : c.add.new.self ≡ t.«open» ++ e ∷ [] = c.in-Ok-true.ensures.added ∙ ap (λ (b : Bool). cond b (t.«open» ++ e ∷ []) t.«open») c.in-Ok-true.field-0-test in
     let room : takes t.«open» e ≡ true = sym c.in-Ok-true.ensures.room ∙ c.in-Ok-true.field-0-test in
     let built = built_in_place _ t.blocks.items (rows_seen t.rows.items) t.«open» t.keys c.self.invariant.2 e is rises room c.add.new.self c.push_key.new.keys added c.in_ok-push_key.ensures.added in
-    (c.self.invariant.0, c.self.invariant.1, built.0, c.self.invariant.3)
+    (c.self.invariant.0, c.self.invariant.1, built.0, c.self.invariant.3, c.self.invariant.4)
 
 pub returns-in-Ok-true-clause-added : goal.returns-in-Ok-true-clause-added
 returns-in-Ok-true-clause-added c =
@@ -67,7 +67,7 @@ returns-in-Ok-true-clause-added c =
     let all = ap (λ (o : List Entry). entries_with (closed_in (rows_seen t.rows.items) t.blocks.items) o) added
     ∙ sym (append_assoc (joined (closed_in (rows_seen t.rows.items) t.blocks.items)) t.«open» (e ∷ []))
     ∙ ap (λ (es : List Entry). es ++ e ∷ []) entries in
-    (λ i. record { settings = (c.self.view_is i).settings; entries = all i })
+    (λ i. record { settings = (c.self.view_is i).settings; entries = all i; ranges = (c.self.view_is i).ranges })
 
 pub invariant_of-self-in-Ok : goal.invariant_of-self-in-Ok
 invariant_of-self-in-Ok c =
@@ -83,7 +83,7 @@ invariant_of-self-in-Ok c =
     c.close_block.new.blocks.items (rows_seen c.close_block.new.rows.items) c.swap.new.x c.push_key.new.keys
     (c.in-Ok.ensures.written ∙ ap (λ (o : List Entry). t.blocks.items ++ block_bytes o) unadded)
     (c.in-Ok.ensures.kept ∙ ap (λ (o : List Entry). rows_seen t.rows.items ++ unsummed_row_of o ∷ []) unadded) (c.swap.ensures.x_after ∙ c.in_default.ensures.begun) c.in_ok-push_key.ensures.added in
-    (c.self.invariant.0, c.in-Ok.ensures.stand, built.0, c.swap.ensures.y_after ∙ c.in-Ok.ensures.emptied)
+    (c.self.invariant.0, c.in-Ok.ensures.stand, built.0, c.swap.ensures.y_after ∙ c.in-Ok.ensures.emptied, c.self.invariant.4)
 
 pub returns-in-Ok-clause-added : goal.returns-in-Ok-clause-added
 returns-in-Ok-clause-added c =
@@ -101,4 +101,4 @@ returns-in-Ok-clause-added c =
     (c.in-Ok.ensures.written ∙ ap (λ (o : List Entry). t.blocks.items ++ block_bytes o) unadded)
     (c.in-Ok.ensures.kept ∙ ap (λ (o : List Entry). rows_seen t.rows.items ++ unsummed_row_of o ∷ []) unadded) (c.swap.ensures.x_after ∙ begun) c.in_ok-push_key.ensures.added in
     let all = built.1 ∙ ap (λ (es : List Entry). es ++ e ∷ []) entries in
-    (λ i. record { settings = (c.self.view_is i).settings; entries = all i })
+    (λ i. record { settings = (c.self.view_is i).settings; entries = all i; ranges = (c.self.view_is i).ranges })

@@ -1,4 +1,4 @@
-use Rattle.std.proofs.Common.{◌≤◌, ◌∙◌, ap, arith}
+use Rattle.std.proofs.Common.{◌∙◌, ap, arith}
 use Rattle.block_model.specs.Index.{Index}
 use Rattle.table_file.specs.Walks.{most_block_pages}
 use Rattle.table_file.proofs.Rooms.{few_pages_each}
