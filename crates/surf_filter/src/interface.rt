@@ -61,7 +61,7 @@ impl RangeFilter for SurfFilter<Global> {
     }
 
     fn first_difference(&self, alloc: Global, other: &Self) -> Result<Option<u32>, AllocError> {
-        first_difference(&alloc, self.trie(), other.trie())
+        first_difference(alloc, self, other)
     }
 
     fn encode(&self, out: &mut Vec<u8>) -> Result<(), AllocError> {
