@@ -44,7 +44,7 @@ pub fn placed(
     level: u8,
     page: u32,
 ) -> Result<(Table<PlainFilter>, u32), Fail> {
-    if builder.is_empty() || page > 1_000_000 {
+    if builder.is_empty() || !builder.begins_at_keys() || page > 1_000_000 {
         return Err(Fail::from("no entries"));
     }
     let parts: Parts<PlainFilter> = builder.finish()?;

@@ -69,9 +69,10 @@ pages_are [] = refl
 pages_are (p ∷ later) =
     omega (arith, sum_by-cons (λ (row : IndexRow). row.pages) (row_of_piece p) (map row_of_piece later), sum_by-cons piece_pages p later, row_pages_are p, pages_are later)
 
-index_is : (pieces : List Bytes) (index : Index) → first_key (joined (blocks_in pieces)) ≡ index.least → map row_of_piece pieces ≡ index.rows → index_of_pieces pieces ≡ index
+index_is : (pieces : List Bytes) (index : Index) → first_key (joined (blocks_in pieces)) ≡ index.least → map row_of_piece pieces ≡ index.rows
+    → index_of_pieces pieces index.ranges ≡ index
 unfolding index_of_pieces
-index_is pieces index least rows = λ i. record { least = least i; rows = rows i }
+index_is pieces index least rows = λ i. record { least = least i; rows = rows i; ranges = index.ranges }
 
 module _ (spelling : Spelling) (row : Row) (image : Image) (bytes : IsOfBytes image) (sound_index : index_damage row image ≡ None) (keys : findings_of_blocks row image ≡ []) where
   abbrev part : Bytes
@@ -98,7 +99,7 @@ module _ (spelling : Spelling) (row : Row) (image : Image) (bytes : IsOfBytes im
   some : 1 ≤ length (joined blocks)
   some = subst (λ (bs : List (List Entry)). 1 ≤ length (joined bs)) read (some_entries pieces (omega (arith, written.0.some, ap (λ (rows : List IndexRow). length rows) are.rows_are, length-map pieces row_of_piece)) are.each)
 
-  index : index_of_pieces pieces ≡ index_in part
+  index : index_of_pieces pieces (index_in part).ranges ≡ index_in part
   index = index_is pieces (index_in part) (ap (λ (bs : List (List Entry)). first_key (joined bs)) read ∙ sym (same-true (index_in part).least (first_key (joined blocks)) (first_passes (may_follow (AtLeast (index_in part).least)) (joined blocks) some are.rising))) are.rows_are
 
   long : length part ≡ row.index_len
@@ -107,7 +108,7 @@ module _ (spelling : Spelling) (row : Row) (image : Image) (bytes : IsOfBytes im
   filter_long : length (filter_part row image) ≡ row.filter_len
   filter_long = window_size image (byte_of_page (filter_page row)) row.filter_len
 
-  index_bytes_are : index_bytes (index_of_pieces pieces) ≡ part
+  index_bytes_are : index_bytes (index_of_pieces pieces (index_in part).ranges) ≡ part
   index_bytes_are = ap index_bytes index ∙ written.1
 
   pub checked_table : row.index_pages ≡ pages_for row.index_len → row.filter_pages ≡ pages_for row.filter_len → length (joined blocks) ≡ row.entries
@@ -125,6 +126,7 @@ module _ (spelling : Spelling) (row : Row) (image : Image) (bytes : IsOfBytes im
     data_pages = sym (pages_are pieces) ∙ ap (sum_by (λ (r : IndexRow). r.pages)) are.rows_are ∙ written.0.all_pages;
     index_pages = index_pages;
     filter_pages = filter_pages;
+    ranges = (index_in part).ranges;
     index_sound = subst (IsIndex row.data_pages) (sym index) written.0;
     index = record {
       shown = subst (λ (b : Bytes). Shows (byte_of_page (index_page row)) b image) (sym index_bytes_are) (ap (window image (byte_of_page (index_page row))) long);

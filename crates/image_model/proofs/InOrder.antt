@@ -17,7 +17,8 @@ use Rattle.state_model.proofs.Hulls.{fit_of}
 use Rattle.state_model.proofs.Inserted.{before_then}
 use Rattle.table_model.specs.Tables.{Table, as_source}
 use Rattle.image_model.specs.Tables.{AreTablesOf}
-use Rattle.image_model.proofs.Ranges.{range_of_table}
+use Rattle.image_model.specs.Opening.{FollowsAsItStands, range_of_table}
+use Rattle.image_model.proofs.Ranges.{comes_by_rule}
 
 -- ---- levels
 
@@ -54,6 +55,9 @@ by_tests t u true false false level zeroth above up so = absurd cc
 
 stands_next : (t u : Table) → t.level ≤ u.level → follows (range_of_table t) (range_of_table u) ≡ true → StandsBefore t u
 stands_next t u up so = by_tests t u (t.level == u.level) (u.level == 0) (lies_below (as_source t) (least_key u)) refl refl refl up so
+
+pub follows_as_it_stands : FollowsAsItStands
+follows_as_it_stands t u up = (stands_next t u up, comes_by_rule t u)
 
 next_of : (place : ℕ) (t : Table) (later : List Table) → Climb t.level later → ranges_after place (range_of_table t) (map range_of_table later) ≡ None → Next t later
 unfolding ranges_after

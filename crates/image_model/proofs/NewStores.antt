@@ -43,9 +43,10 @@ new_store_ready spelling settings pages image range ratio some few formatted = r
     order = λ i j d before within. absurd (omega (arith, within));
     area = 0;
     area_is = refl;
-    entries = [];
     log = empty 0 image formatted.log_gate;
+    entries = [];
     sets = refl;
+    no_ranges = tt;
     no_job = refl;
     none_kept = refl;
   };

@@ -26,29 +26,32 @@ use Rattle.block_model.specs.Order.{Follow, is_any}
 use Rattle.block_model.specs.Pages.{first_key, last_key, pages_for}
 use Rattle.block_model.specs.Places.{byte_of_page, index_page}
 use Rattle.block_model.proofs.Refusals.{kept, neither, not_false}
-use Rattle.log_model.specs.Area.{LogIs}
+use Rattle.log_model.specs.Area.{LogIs, area_in}
+use Rattle.log_model.proofs.Ends.{one_list}
 use Rattle.manifest_model.specs.Laws.{IsVersion}
 use Rattle.manifest_model.specs.Reading.{table_row_fault, table_rows_fault}
 use Rattle.manifest_model.specs.Slots.{AreSlots, IsCurrent, IsVersionOf}
 use Rattle.manifest_model.specs.Tables.{follows, ranges_after, ranges_fault}
 use Rattle.manifest_model.specs.Version.{Version, log_page_of, slot_a, slot_b}
-use Rattle.manifest_model.proofs.Versions.{in_use}
+use Rattle.manifest_model.proofs.Versions.{in_use, one_version}
+use Rattle.range_model.specs.Sources.{Change, Sets}
 use Rattle.state_model.specs.State.{State}
+use Rattle.state_model.specs.WithoutRanges.{HasNoRange}
 use Rattle.table_model.specs.Damage.{AreSoundBlocks, IsOfBytes, IsSoundFilter, block_damage, index_damage, index_part}
 use Rattle.table_model.specs.Images.{IsTableAt, table_with}
 use Rattle.table_model.specs.Pieces.{IsPiece, blocks_in, end_to_end, index_of_pieces, row_of_piece}
 use Rattle.table_model.specs.Tables.{Table}
-use Rattle.table_model.proofs.Pieces.{least_of_index, piece_fills, row_last, row_pages_are, rows_of_index}
+use Rattle.table_model.proofs.Pieces.{least_of_index, piece_fills, ranges_of_index, row_last, row_pages_are, rows_of_index}
 use Rattle.table_model.proofs.Shown.{shown_is, shown_parts}
 use Rattle.table_model.proofs.Sound.{blocks_have_none, filter_has_none, filter_of_keys, index_has_none, index_read}
-use Rattle.image_model.specs.Findings.{AreFindings, AtLeast, Before, Behind, FilterFindings, Finding, LogFindings, NoFindingIsState, RowsFindings, WrongCount, WrongKeys, are_sound_blocks, block_at, block_findings, blocks_at, blocks_of_row, broken, compared, count_findings, fault_after, finding, findings_at, findings_behind, findings_of_blocks, has_its_keys, index_findings, index_rows, known_behind, known_keys, leaf_findings, may_follow, neighbours_fault, of_slots, of_version, ranges_findings, spelled, unless}
+use Rattle.image_model.specs.Findings.{AreFindings, AtLeast, Before, Behind, FilterFindings, Finding, HasNoIndexRange, LogFindings, NamesOnlyEntries, NoFindingIsState, RowsFindings, ShowsOnlyEntries, WrongCount, WrongKeys, are_sound_blocks, block_at, block_findings, blocks_at, blocks_of_row, broken, compared, count_findings, fault_after, finding, findings_at, findings_behind, findings_of_blocks, has_its_keys, index_findings, index_rows, known_behind, known_keys, leaf_findings, may_follow, neighbours_fault, of_slots, of_version, ranges_findings, spelled, unless}
 use Rattle.image_model.specs.Opening.{IsOpened, key_range_of, opened_state}
 use Rattle.image_model.specs.Stands.{IsStateBy, IsStateOf}
 use Rattle.image_model.specs.Tables.{AreTablesOf}
 use Rattle.image_model.proofs.CheckedBlocks.{a_damage_is_found, none_of_both}
 use Rattle.image_model.proofs.CheckedTables.{keys_known, row_without_finding_is_table}
 use Rattle.image_model.proofs.Opened.{opened_is_state}
-use Rattle.image_model.proofs.Opening.{all_opened}
+use Rattle.image_model.proofs.Opening.{all_opened, same_area}
 use Rattle.image_model.proofs.Ranges.{ranges_keep}
 use Rattle.image_model.proofs.Sound.{version_sound}
 
@@ -99,35 +102,51 @@ no_range slot (Some f) e = absurd cc
 
 -- ---- without a finding
 
+-- the ranges of a table are those of its index
+ranges_of_row : (spelling : Spelling) (row : Row) (blocks : List (List Entry)) (image : Image) (t : IsTableAt spelling row blocks image) → (index_in (index_part row image)).ranges ≡ t.ranges
+ranges_of_row spelling row blocks image t = ap (λ (x : Index). x.ranges) (index_read spelling row blocks image t) ∙ ranges_of_index t.pieces t.ranges
+
 module _ (spelling : Spelling) (first_fault : Bytes → FilterFault) (image : Image) (bytes : IsOfBytes image) where
-  rows_without : (rows : List Row) (xs : List Finding) → AllByRecursion HasPages rows → RowsFindings spelling first_fault image rows xs → xs ≡ [] → (tables : List Table) × AreTablesOf spelling rows tables image
-  rows_without [] xs paged findings none = ([], tt)
-  rows_without (row ∷ rows) xs paged findings none =
+  rows_without : (rows : List Row) (xs : List Finding) → AllByRecursion HasPages rows → AllByRecursion (HasNoIndexRange image) rows
+      → RowsFindings spelling first_fault image rows xs → xs ≡ [] → (tables : List Table) × AreTablesOf spelling rows tables image × AllByRecursion HasNoRange tables
+  rows_without [] xs paged alone findings none = ([], tt, tt)
+  rows_without (row ∷ rows) xs paged alone findings none =
       let a = none_of_both (index_findings row image) (findings.0 ++ findings.1) (sym findings.4 ∙ none) in
       let b = none_of_both findings.0 findings.1 a.1 in
       let t = row_without_finding_is_table spelling first_fault row image bytes paged.0.index paged.0.filter a.0
       (subst (λ (f : List Finding). FilterFindings spelling first_fault row (known_keys row image) image f) b.0 findings.2) in
-      let more = rows_without rows findings.1 paged.1 findings.3 b.1 in
-      (table_with row (blocks_of_row row image) ∷ more.0, ((blocks_of_row row image, t, refl), more.1))
+      let more = rows_without rows findings.1 paged.1 alone.1 findings.3 b.1 in (
+        table_with row (blocks_of_row row image) t.ranges ∷ more.0,
+        ((blocks_of_row row image, t, refl), more.1),
+        (sym (ranges_of_row spelling row (blocks_of_row row image) image t) ∙ alone.0, more.2),
+      )
 
-  log_without : (v : Version) (xs : List Finding) → LogFindings v image xs → xs ≡ [] → (area : ℕ) × (entries : List Entry) × (v.log_page ≡ log_page_of area) × LogIs area entries image
-  log_without v _ (spelled area entries is log) none = (area, entries, is, log)
+  log_without : (v : Version) (xs : List Finding) → LogFindings v image xs → xs ≡ [] → (area : ℕ) × (changes : List Change) × (v.log_page ≡ log_page_of area) × LogIs area changes image
+  log_without v _ (spelled area changes is log) none = (area, changes, is, log)
   log_without v _ (broken area at rule is breaks) none = absurd cc
 
-  none_is_state : (xs : List Finding) → AreFindings spelling first_fault image xs → xs ≡ [] → (s : State) × IsStateOf spelling s image
-  none_is_state _ (of_slots d is) none = absurd (a_damage_is_found d none)
-  none_is_state _ (of_version slot other v of_rows of_log slots current rows log) none =
+  -- the log that is spelled sets the entries
+  sets_them : (v : Version) (area : ℕ) (changes : List Change) (names : NamesOnlyEntries v image) → v.log_page ≡ log_page_of area → LogIs area changes image → changes ≡ map Sets names.entries
+  sets_them v area changes names is log =
+      one_list changes (map Sets names.entries) (area_in area image) log
+      (subst (λ (k : ℕ). LogIs k (map Sets names.entries) image) (same_area v.log_page names.area area names.area_is is) names.log)
+
+  none_is_state : (xs : List Finding) → ShowsOnlyEntries image → AreFindings spelling first_fault image xs → xs ≡ [] → (s : State) × IsStateOf spelling s image
+  none_is_state _ shows (of_slots d is) none = absurd (a_damage_is_found d none)
+  none_is_state _ shows (of_version slot other v of_rows of_log slots current rows log) none =
       let a = none_of_both of_rows (ranges_findings slot (neighbours_fault v.rows image) ++ of_log) none in
       let b = none_of_both (ranges_findings slot (neighbours_fault v.rows image)) of_log a.1 in
       let is = in_use slot other v image slots current in
-      let tables = rows_without v.rows of_rows (version_paged v (version_sound v image is)) rows a.0 in
+      let names = subst (λ (u : Version). NamesOnlyEntries u image) (one_version image shows.0 v shows.1 is) shows.2 in
+      let tables = rows_without v.rows of_rows (version_paged v (version_sound v image is)) names.indexes rows a.0 in
       let opened = all_opened spelling v.rows tables.0 image tables.1 in
-      let entries = log_without v of_log log b.1 in
+      let spelled = log_without v of_log log b.1 in
       let ranges : ranges_fault (map (key_range_of image) v.rows) ≡ None =
       sym (neighbours_are image v.rows (indexes_of_opened spelling image v.rows opened)) ∙ no_range slot (neighbours_fault v.rows image) b.0 in (
-        opened_state v entries.1 tables.0,
-        opened_is_state spelling v entries.1 tables.0 image
-            (record { version_is = is; tables = opened; ranges = ranges; area = entries.0; area_is = entries.2; log = entries.3 }) tables.1,
+        opened_state v spelled.1 tables.0,
+        opened_is_state spelling v spelled.1 names.entries tables.0 image
+            (record { version_is = is; tables = opened; ranges = ranges; area = spelled.0; area_is = spelled.2; log = spelled.3 }) tables.1
+            (record { log = sets_them v spelled.0 spelled.1 names spelled.2 spelled.3; tables = tables.2 }),
       )
 
 -- ---- of a table
@@ -169,14 +188,14 @@ none_of_pieces page before (piece ∷ later) image each sound shown follow =
     )
 
 module _ (spelling : Spelling) (first_fault : Bytes → FilterFault) (row : Row) (blocks : List (List Entry)) (image : Image) (t : IsTableAt spelling row blocks image) where
-  read : index_in (index_part row image) ≡ index_of_pieces t.pieces
+  read : index_in (index_part row image) ≡ index_of_pieces t.pieces t.ranges
   read = index_read spelling row blocks image t
 
   rows_are : index_rows row image ≡ map row_of_piece t.pieces
-  rows_are = ap (λ (x : Index). x.rows) read ∙ rows_of_index t.pieces
+  rows_are = ap (λ (x : Index). x.rows) read ∙ rows_of_index t.pieces t.ranges
 
   least_is : (index_in (index_part row image)).least ≡ first_key (joined blocks)
-  least_is = ap (λ (x : Index). x.least) read ∙ least_of_index t.pieces ∙ ap (λ (bs : List (List Entry)). first_key (joined bs)) t.read
+  least_is = ap (λ (x : Index). x.least) read ∙ least_of_index t.pieces t.ranges ∙ ap (λ (bs : List (List Entry)). first_key (joined bs)) t.read
 
   none : (block_findings row.first_page (AtLeast (first_key (joined blocks))) (map row_of_piece t.pieces) image ≡ []) × (blocks_at row.first_page (map row_of_piece t.pieces) image ≡ blocks_in t.pieces)
   none = none_of_pieces row.first_page (AtLeast (first_key (joined blocks))) t.pieces image t.each
@@ -242,9 +261,9 @@ state_has_none : (spelling : Spelling) (first_fault : Bytes → FilterFault) (im
 state_has_none spelling first_fault image slot other v s slots current is =
     let named = is.named in
     let opened = all_opened spelling v.rows s.tables image named.tables in
-    let ranges : neighbours_fault v.rows image ≡ None = neighbours_are image v.rows (indexes_of_opened spelling image v.rows opened) ∙ ranges_keep spelling v.rows s.tables image named.tables named.order in
+    let ranges : neighbours_fault v.rows image ≡ None = neighbours_are image v.rows (indexes_of_opened spelling image v.rows opened) ∙ ranges_keep spelling v.rows s.tables image named.tables named.no_ranges named.order in
     subst (AreFindings spelling first_fault image) (ap (λ (o : Option Fault). ranges_findings slot o ++ []) ranges)
-    (of_version slot other v [] [] slots current (rows_of_state spelling first_fault image v.rows s.tables named.tables) (spelled named.area named.entries named.area_is named.log))
+    (of_version slot other v [] [] slots current (rows_of_state spelling first_fault image v.rows s.tables named.tables) (spelled named.area s.log named.area_is named.log))
 
 pub of_state : (spelling : Spelling) (first_fault : Bytes → FilterFault) (image : Image) → (s : State) × IsStateOf spelling s image → AreFindings spelling first_fault image []
 of_state spelling first_fault image (s, (v, is)) = go is.version_is
@@ -253,5 +272,32 @@ of_state spelling first_fault image (s, (v, is)) = go is.version_is
     go (inl current) = state_has_none spelling first_fault image slot_a slot_b v s (inl (refl, refl)) current is
     go (inr current) = state_has_none spelling first_fault image slot_b slot_a v s (inr (refl, refl)) current is
 
+-- its indexes have no range either
+indexes_alone : (spelling : Spelling) (rows : List Row) (tables : List Table) (image : Image) → AreTablesOf spelling rows tables image → AllByRecursion HasNoRange tables
+    → AllByRecursion (HasNoIndexRange image) rows
+indexes_alone spelling [] tables image are alone = tt
+indexes_alone spelling (row ∷ rows) [] image are alone = elim are [ ]
+indexes_alone spelling (row ∷ rows) (t ∷ ts) image are alone = (
+  ranges_of_row spelling row are.0.0 image are.0.1 ∙ sym (ap (λ (u : Table). u.ranges) are.0.2) ∙ alone.0,
+  indexes_alone spelling rows ts image are.1 alone.1,
+)
+
+state_shows : (spelling : Spelling) (image : Image) → (s : State) × IsStateOf spelling s image → ShowsOnlyEntries image
+state_shows spelling image (s, (v, is)) =
+    let named = is.named in (
+      v,
+      is.version_is,
+      record {
+        area = named.area;
+        area_is = named.area_is;
+        entries = named.entries;
+        log = subst (λ (changes : List Change). LogIs named.area changes image) named.sets named.log;
+        indexes = indexes_alone spelling v.rows s.tables image named.tables named.no_ranges;
+      },
+    )
+
 pub no_finding_is_state : NoFindingIsState
-no_finding_is_state spelling first_fault image bytes = (λ are. none_is_state spelling first_fault image bytes [] are refl, of_state spelling first_fault image)
+no_finding_is_state spelling first_fault image bytes = (
+  λ are. none_is_state spelling first_fault image bytes [] are.1 are.0 refl,
+  λ state. (of_state spelling first_fault image state, state_shows spelling image state),
+)

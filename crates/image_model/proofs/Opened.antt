@@ -7,7 +7,6 @@ use Rattle.byte_fields.specs.declared.parts.Damage.{Damage}
 use Rattle.byte_fields.specs.declared.parts.Row.{Row}
 use Rattle.disk_trait.specs.Image.{Image}
 use Rattle.disk_trait.proofs.Images.{window_size}
-use Rattle.entry_model.specs.Entries.{Entry}
 use Rattle.filter_api.specs.Spellings.{IsDecided, Spelling, SpellsOne}
 use Rattle.filter_api.specs.declared.errors.FilterFault.{FilterFault}
 use Rattle.log_model.specs.Area.{LogBreaks, LogIs, area_in, area_size, start_of}
@@ -15,6 +14,7 @@ use Rattle.log_model.proofs.Ends.{not_both}
 use Rattle.log_model.proofs.Logs.{size_is}
 use Rattle.log_model.proofs.Readings.{spells_or_breaks}
 use Rattle.map_model.specs.SortedMap.{Bytes}
+use Rattle.range_model.specs.Sources.{Change}
 use Rattle.manifest_model.specs.Laws.{IsVersion}
 use Rattle.manifest_model.specs.Reading.{levels_fault, table_rows_fault}
 use Rattle.manifest_model.specs.Slots.{IsNoStore, IsVersionOf, body_room, slots_damage}
@@ -60,7 +60,7 @@ module _ (spelling : Spelling) (first_fault : Bytes → FilterFault) (image : Im
   pub area_of : (v : Version) → IsVersion v → (area : ℕ) × (v.log_page ≡ 64 * (area + 1))
   area_of v is = elim is.log_page [ inl first ↦ (0, first) | inr second ↦ (1, second) ]
 
-  pub log_ends : (area : ℕ) → ((log : List Entry) × LogIs area log image) ⊎ ((at : ℕ) × (rule : ℕ) × LogBreaks area at rule image)
+  pub log_ends : (area : ℕ) → ((log : List Change) × LogIs area log image) ⊎ ((at : ℕ) × (rule : ℕ) × LogBreaks area at rule image)
   log_ends area = elim (spells_or_breaks (area_in area image) (window_bytes image (start_of area) area_size bytes) (omega (arith, window_size image (start_of area) area_size, size_is))) [
     | inl spelled ↦ inl spelled
     | inr broken ↦ inr (start_of area + broken.0, broken.1, (broken.0, refl, broken.2))
@@ -69,7 +69,7 @@ module _ (spelling : Spelling) (first_fault : Bytes → FilterFault) (image : Im
   -- ---- what a version names
 
   abbrev OfVersion : ℕ → Version → Type 0
-  OfVersion slot v = ((d : Damage) × VersionBreaks spelling first_fault slot v image d) ⊎ ((log : List Entry) × OpensWith spelling v log image)
+  OfVersion slot v = ((d : Damage) × VersionBreaks spelling first_fault slot v image d) ⊎ ((log : List Change) × OpensWith spelling v log image)
 
   version_ends : (slot : ℕ) (v : Version) → IsVersionOf v image → OfVersion slot v
   version_ends slot v is = elim (tables_end v.rows) [
@@ -88,7 +88,7 @@ module _ (spelling : Spelling) (first_fault : Bytes → FilterFault) (image : Im
   -- ---- the image
 
   abbrev OfImage : Type 0
-  OfImage = IsNoStore image ⊎ (((d : Damage) × FirstDamage spelling first_fault image d) ⊎ ((v : Version) × (log : List Entry) × OpensWith spelling v log image))
+  OfImage = IsNoStore image ⊎ (((d : Damage) × FirstDamage spelling first_fault image d) ⊎ ((v : Version) × (log : List Change) × OpensWith spelling v log image))
 
   of_version_found : (v : Version) → IsVersionOf v image → OfImage
   of_version_found v (inl is) = elim (version_ends slot_a v (inl is)) [
@@ -114,7 +114,7 @@ image_opens spelling first_fault image decided bytes = of_image spelling first_f
 
 -- ---- what opens has no damage
 
-module _ (spelling : Spelling) (first_fault : Bytes → FilterFault) (v : Version) (log : List Entry) (image : Image) (one : SpellsOne spelling) (opens : OpensWith spelling v log image) where
+module _ (spelling : Spelling) (first_fault : Bytes → FilterFault) (v : Version) (log : List Change) (image : Image) (one : SpellsOne spelling) (opens : OpensWith spelling v log image) where
   none_of_version : (slot : ℕ) (d : Damage) → VersionBreaks spelling first_fault slot v image d → ⊥
   none_of_version slot _ (at_a_table d a) = none_of_opened spelling first_fault image one d v.rows opens.tables a
   none_of_version slot _ (at_the_ranges f all a) = not_fault f _ opens.ranges a
@@ -136,23 +136,21 @@ state_opens spelling s image is =
     let v = is.0 in
     let named = is.1.named in (
       v,
-      named.entries,
       record {
         version_is = is.1.version_is;
         tables = all_opened spelling v.rows s.tables image named.tables;
-        ranges = ranges_keep spelling v.rows s.tables image named.tables named.order;
+        ranges = ranges_keep spelling v.rows s.tables image named.tables named.no_ranges named.order;
         area = named.area;
         area_is = named.area_is;
         log = named.log;
       },
-      named.sets,
     )
 
 no_level_falls : (v : Version) → IsVersion v → levels_fault 64 0 v.rows ≡ None
 no_level_falls v is = (neither (levels_fault 64 0 v.rows) _ (neither (table_rows_fault 64 v.rows) _ is.placed).1).0
 
 pub opened_is_state : OpenedIsState
-opened_is_state spelling v log tables image opens are =
+opened_is_state spelling v log entries tables image opens are only =
     let is = version_sound v image opens.version_is in (
       v,
       record {
@@ -163,13 +161,14 @@ opened_is_state spelling v log tables image opens are =
           epoch = refl;
           tables = are;
           order = in_order 0 tables (climb_of spelling 64 0 v.rows tables image are (no_level_falls v is))
-              (sym (ap ranges_fault (ranges_are spelling v.rows tables image are)) ∙ opens.ranges)
-              (tables_sound spelling v.rows tables image (version_levelled v is) are);
+              (sym (ap ranges_fault (ranges_are spelling v.rows tables image are only.tables)) ∙ opens.ranges)
+              (tables_sound spelling v.rows tables image (version_levelled v is) are only.tables);
           area = opens.area;
           area_is = opens.area_is;
-          entries = log;
           log = opens.log;
-          sets = refl;
+          entries = entries;
+          sets = only.log;
+          no_ranges = only.tables;
           no_job = refl;
           none_kept = refl;
         };

@@ -108,9 +108,9 @@ module _ (spelling : Spelling) (first_fault : Bytes → FilterFault) (slot : ℕ
   none_of_named s _ named (at_a_table d a) =
       none_of_opened spelling first_fault image one d v.rows
       (all_opened spelling v.rows s.tables image named.tables) a
-  none_of_named s _ named (at_the_ranges f all a) = not_fault f _ (ranges_keep spelling v.rows s.tables image named.tables named.order) a
+  none_of_named s _ named (at_the_ranges f all a) = not_fault f _ (ranges_keep spelling v.rows s.tables image named.tables named.no_ranges named.order) a
   none_of_named s _ named (at_the_log area at rule all none is a) =
-      not_both named.entries a.0 rule (area_in area image) (subst (λ (k : ℕ). LogIs k named.entries image) (same_area v.log_page named.area area named.area_is is) named.log) a.2
+      not_both s.log a.0 rule (area_in area image) (subst (λ (k : ℕ). LogIs k s.log image) (same_area v.log_page named.area area named.area_is is) named.log) a.2
 
 -- ---- of an image
 

@@ -10,7 +10,7 @@ use Rattle.disk_trait.proofs.Images.{window_size}
 use Rattle.filter_api.specs.Ranges.{InRange}
 use Rattle.filter_api.specs.Spellings.{Spelling}
 use Rattle.filter_api.specs.declared.settings.Settings.{Settings}
-use Rattle.entry_model.specs.Entries.{Entry, filled}
+use Rattle.entry_model.specs.Entries.{Entry}
 use Rattle.key_base.specs.Limits.{last_epoch}
 use Rattle.log_model.specs.Area.{area_size, start_of}
 use Rattle.log_model.proofs.Logs.{size_is}
@@ -28,11 +28,11 @@ use Rattle.manifest_model.specs.Version.{Version}
 use Rattle.state_model.specs.Sound.{IsSound, IsSoundTable, MayRun}
 use Rattle.state_model.specs.State.{Job, State, written_by}
 use Rattle.state_model.specs.Taken.{extent_of, taken}
-use Rattle.state_model.specs.Logs.{IsLoggedChange, filled_by, recorded}
+use Rattle.state_model.specs.WithoutRanges.{HasNoRange}
+use Rattle.state_model.specs.Logs.{filled_by}
 use Rattle.state_model.proofs.Places.{IsSmall, blocks_joined_small}
 use Rattle.state_model.proofs.Sayings.{alone_is, rises_follow}
-use Rattle.state_model.proofs.SoundLogs.{recorded_sets, sets_logged}
-use Rattle.table_model.specs.Images.{IsTableAt, IsTableOf}
+use Rattle.table_model.specs.Images.{IsTableAt, IsTableOf, table_with}
 use Rattle.table_model.specs.Tables.{FilterBytes, Table}
 use Rattle.table_model.specs.Pieces.{IsPiece, blocks_in, piece_pages, row_of_piece}
 use Rattle.table_model.proofs.Pieces.{row_pages_are, rows_of_index}
@@ -56,17 +56,17 @@ some_blocks : (spelling : Spelling) (row : Row) (blocks : List (List Entry)) (im
     → (1 ≤ length blocks) × (length blocks ≤ pages_of row)
 some_blocks spelling row blocks image t =
     let ps = t.pieces in
-    let many = ap length (rows_of_index ps) ∙ length-map ps row_of_piece in
+    let many = ap length (rows_of_index ps t.ranges) ∙ length-map ps row_of_piece in
     let same = sym (length-map ps block_in) ∙ ap length t.read in
-    let rows = subst (AllByRecursion IsIndexRow) (rows_of_index ps) t.index_sound.each in
+    let rows = subst (AllByRecursion IsIndexRow) (rows_of_index ps t.ranges) t.index_sound.each in
     (omega (arith, t.index_sound.some, many, same), omega (arith, pieces_have_pages ps rows, t.data_pages, same))
 
 small_blocks : (pieces : List Bytes) → AllByRecursion IsPiece pieces → AllByRecursion IsSmall (blocks_in pieces)
 small_blocks [] each = tt
 small_blocks (p ∷ more) each = (each.0.sound.few, small_blocks more each.1)
 
-table_sound : (spelling : Spelling) (row : Row) (t : Table) (image : Image) → IsLevelled row → IsTableOf spelling row t image → IsSoundTable t
-table_sound spelling row t image is of_row = subst IsSoundTable (sym of_row.2) (record {
+table_sound : (spelling : Spelling) (row : Row) (t : Table) (image : Image) → IsLevelled row → IsTableOf spelling row t image → HasNoRange t → IsSoundTable t
+table_sound spelling row t image is of_row none = subst IsSoundTable (sym (of_row.2 ∙ ap (table_with row of_row.0) (sym (ap (λ (u : Table). u.ranges) of_row.2) ∙ none))) (record {
   level = is.level;
   entries = of_row.1.table;
   source = alone_is (joined of_row.0) (rises_follow is_any (joined of_row.0) of_row.1.table.rising);
@@ -78,12 +78,12 @@ table_sound spelling row t image is of_row = subst IsSoundTable (sym of_row.2) (
 })
 
 pub tables_sound : (spelling : Spelling) (rows : List Row) (tables : List Table) (image : Image) → AllByRecursion IsLevelled rows
-    → AreTablesOf spelling rows tables image → AllByRecursion IsSoundTable tables
-tables_sound spelling [] [] image is are = tt
-tables_sound spelling [] (t ∷ ts) image is are = elim are [ ]
-tables_sound spelling (row ∷ rows) [] image is are = elim are [ ]
-tables_sound spelling (row ∷ rows) (t ∷ ts) image is are =
-    (table_sound spelling row t image is.0 are.0, tables_sound spelling rows ts image is.1 are.1)
+    → AreTablesOf spelling rows tables image → AllByRecursion HasNoRange tables → AllByRecursion IsSoundTable tables
+tables_sound spelling [] [] image is are none = tt
+tables_sound spelling [] (t ∷ ts) image is are none = elim are [ ]
+tables_sound spelling (row ∷ rows) [] image is are none = elim are [ ]
+tables_sound spelling (row ∷ rows) (t ∷ ts) image is are none =
+    (table_sound spelling row t image is.0 are.0 none.0, tables_sound spelling rows ts image is.1 are.1 none.1)
 
 same_many : (spelling : Spelling) (rows : List Row) (tables : List Table) (image : Image) → AreTablesOf spelling rows tables image → length tables ≡ length rows
 same_many spelling [] [] image are = refl
@@ -140,11 +140,8 @@ module _ (spelling : Spelling) (filter_bytes : FilterBytes) (v : Version) (s : S
   extents : taken s ≡ map extent_of_row v.rows
   extents = named_alone s named.no_job named.none_kept ∙ extents_are spelling v.rows s.tables image named.tables
 
-  log_is : map recorded s.log ≡ named.entries
-  log_is = ap (map recorded) named.sets ∙ recorded_sets named.entries
-
   log_fits : filled_by s.log < 262144
-  log_fits = omega (arith, ap filled log_is, named.log.begins.within, window_size image (start_of named.area) area_size, size_is)
+  log_fits = omega (arith, named.log.begins.within, window_size image (start_of named.area) area_size, size_is)
 
   pub named_sound : IsSound filter_bytes s
   named_sound = record {
@@ -152,10 +149,10 @@ module _ (spelling : Spelling) (filter_bytes : FilterBytes) (v : Version) (s : S
     ratio = ratio;
     device = (omega (arith, named.pages, is.some_pages), omega (arith, named.pages, is.few_pages));
     epoch = (omega (arith, named.epoch, is.some_epoch), omega (arith, named.epoch, is.epoch, last_is));
-    log = subst (AllByRecursion IsLoggedChange) (sym named.sets) (sets_logged named.entries named.log.begins.sound);
+    log = named.log.begins.sound;
     log_fits = log_fits;
     few = omega (arith, same_many spelling v.rows s.tables image named.tables, is.few_tables);
-    tables = tables_sound spelling v.rows s.tables image (version_levelled v is) named.tables;
+    tables = tables_sound spelling v.rows s.tables image (version_levelled v is) named.tables named.no_ranges;
     order = named.order;
     on_device = subst (λ (es : List Extent). AllByRecursion (IsOnDevice s.pages) es) (sym extents)
         (subst (λ (n : ℕ). AllByRecursion (IsOnDevice n) (map extent_of_row v.rows)) (sym named.pages) (on_device v.pages v.rows (version_levelled v is) (version_placed v is)));

@@ -1,6 +1,6 @@
 -- What a check of the whole store finds wrong with an image: a list, in the order in which it looks. Opening reads no block and
 -- compares no filter with keys; a check does both.
-use Rattle.std.specs.Prelude.{◌≡◌, ◌↔◌, ◌⊎◌, ◌+◌, ◌==◌, ℕ, Bool, true, not, ◌&&◌, ◌||◌, List, [], ◌∷◌, ◌++◌, length, is_none, if◌then◌else◌, Option, Some, None}
+use Rattle.std.specs.Prelude.{◌≡◌, ◌↔◌, ◌⊎◌, ◌+◌, ◌==◌, ℕ, Bool, true, not, ◌&&◌, ◌||◌, List, [], ◌∷◌, ◌++◌, length, map, is_none, if◌then◌else◌, Option, Some, None}
 use Rattle.std.specs.List.{AllByRecursion}
 use Rattle.disk_trait.specs.Image.{Image}
 use Rattle.byte_fields.specs.Faults.{Fault, refuse}
@@ -24,7 +24,8 @@ use Rattle.block_model.specs.Laws.{joined}
 use Rattle.block_model.specs.Pages.{first_key, last_key, pages_for}
 use Rattle.block_model.specs.Places.{byte_of_page, filter_page, index_page}
 use Rattle.log_model.specs.Area.{LogBreaks, LogIs}
-use Rattle.manifest_model.specs.Slots.{AreSlots, IsCurrent, IsNoStore, slots_damage}
+use Rattle.range_model.specs.Sources.{Change, Sets}
+use Rattle.manifest_model.specs.Slots.{AreSlots, IsCurrent, IsNoStore, IsVersionOf, slots_damage}
 use Rattle.manifest_model.specs.Tables.{follows}
 use Rattle.manifest_model.specs.Version.{Version, body_place, log_page_of}
 use Rattle.table_model.specs.Images.{IsTableAt}
@@ -183,9 +184,9 @@ abbrev pub ranges_findings : ℕ → Option Fault → List Finding
 ranges_findings slot None = []
 ranges_findings slot (Some f) = finding part.Manifest (body_place slot + f.place) (BrokenRule f.rule) ∷ []
 
--- the log that the version names spells some entries, or breaks a rule
+-- the log that the version names spells some changes, or breaks a rule
 pub data LogFindings (v : Version) (image : Image) : List Finding → Type 0 where
-  spelled : (area : ℕ) (entries : List Entry) → v.log_page ≡ log_page_of area → LogIs area entries image → LogFindings v image []
+  spelled : (area : ℕ) (changes : List Change) → v.log_page ≡ log_page_of area → LogIs area changes image → LogFindings v image []
   broken : (area at rule : ℕ) → v.log_page ≡ log_page_of area → LogBreaks area at rule image → LogFindings v image (finding part.Log at (BrokenRule rule) ∷ [])
 
 -- ---- the image
@@ -198,6 +199,24 @@ pub data AreFindings (spelling : Spelling) (first_fault : Bytes → FilterFault)
       → RowsFindings spelling first_fault image v.rows of_rows → LogFindings v image of_log
       → AreFindings spelling first_fault image (of_rows ++ (ranges_findings slot (neighbours_fault v.rows image) ++ of_log))
 
+-- ---- images of entries alone
+
+-- the index of a row has no range
+abbrev pub HasNoIndexRange : Image → Row → Type 0
+HasNoIndexRange image row = (index_in (index_part row image)).ranges ≡ []
+
+-- the log of the version sets entries alone, and no index of its rows has a range
+pub record NamesOnlyEntries (v : Version) (image : Image) : Type 0 where
+  pub area : ℕ
+  pub area_is : v.log_page ≡ log_page_of area
+  pub entries : List Entry
+  pub log : LogIs area (map Sets entries) image
+  pub indexes : AllByRecursion (HasNoIndexRange image) v.rows
+
+-- so is it of the version of the image
+abbrev pub ShowsOnlyEntries : Image → Type 0
+ShowsOnlyEntries image = (v : Version) × IsVersionOf v image × NamesOnlyEntries v image
+
 -- ---- laws
 
 -- Where index, blocks and count of a row give no finding, and its filter is sound and of no leaf that differs, its pages spell
@@ -209,11 +228,11 @@ RowWithoutFindingIsTable =
     → index_findings row image ≡ [] → FilterFindings spelling first_fault row (known_keys row image) image []
     → IsTableAt spelling row (blocks_of_row row image) image
 
--- None is found exactly where the image represents a state.
+-- None is found in an image of entries alone exactly where it represents a state.
 abbrev pub NoFindingIsState : Type 0
 NoFindingIsState =
     (spelling : Spelling) (first_fault : Bytes → FilterFault) (image : Image) → IsOfBytes image
-    → AreFindings spelling first_fault image [] ↔ ((s : State) × IsStateOf spelling s image)
+    → (AreFindings spelling first_fault image [] × ShowsOnlyEntries image) ↔ ((s : State) × IsStateOf spelling s image)
 
 -- An image has one list, where the kind of filter spells one; an image of bytes that is a store has one, where it can tell.
 abbrev pub OneListOfFindings : Type 0

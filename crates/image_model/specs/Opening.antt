@@ -1,5 +1,5 @@
 -- What opening finds wrong with an image: the first damage, in the order in which it looks.
-use Rattle.std.specs.Prelude.{◌≡◌, ◌⊎◌, ◌+◌, ◌++◌, ℕ, List, [], ◌∷◌, map, Some, None}
+use Rattle.std.specs.Prelude.{◌≡◌, ◌↔◌, ◌≤◌, ◌⊎◌, ◌+◌, ◌++◌, ℕ, true, List, [], ◌∷◌, map, Some, None}
 use Rattle.std.specs.List.{AllByRecursion}
 use Rattle.disk_trait.specs.Image.{Image}
 use Rattle.byte_fields.specs.declared.parts.Damage.{Damage}
@@ -16,11 +16,15 @@ use Rattle.block_model.specs.Index.{IndexRow}
 use Rattle.block_model.specs.IndexReading.{index_in}
 use Rattle.block_model.specs.Places.{byte_of_page}
 use Rattle.entry_model.specs.Entries.{Entry}
-use Rattle.range_model.specs.Sources.{Sets}
+use Rattle.range_model.specs.Reach.{reach}
+use Rattle.range_model.specs.Sources.{Change}
 use Rattle.manifest_model.specs.Slots.{AreSlots, IsCurrent, IsNoStore, IsVersionOf, slots_damage}
-use Rattle.manifest_model.specs.Tables.{KeyRange, ranges_fault}
+use Rattle.manifest_model.specs.Tables.{KeyRange, follows, ranges_fault}
 use Rattle.manifest_model.specs.Version.{Version, body_place, log_page_of}
+use Rattle.state_model.specs.Merges.{greatest_key, least_key}
+use Rattle.state_model.specs.Sound.{StandsBefore}
 use Rattle.state_model.specs.State.{State}
+use Rattle.state_model.specs.WithoutRanges.{HasOnlyEntries}
 use Rattle.table_model.specs.Damage.{IsOfBytes, IsFilterDamage, IsSoundFilter, index_damage, index_part}
 use Rattle.table_model.specs.Tables.{Table}
 use Rattle.image_model.specs.Stands.{IsStateOf, settings_of}
@@ -47,7 +51,7 @@ greatest_in [] = []
 greatest_in (row ∷ []) = row.last
 greatest_in (row ∷ next ∷ later) = greatest_in (next ∷ later)
 
--- the level of a row, and the least and the greatest key of its index
+-- the level of a row, and the least and the greatest key of its index; the ends of its ranges do not count yet
 abbrev pub key_range_of : Image → Row → KeyRange
 key_range_of image row = record {
   level = row.level;
@@ -55,6 +59,10 @@ key_range_of image row = record {
   greatest = greatest_in (index_in (index_part row image)).rows;
   reach = [];
 }
+
+-- the range of a table
+abbrev pub range_of_table : Table → KeyRange
+range_of_table t = record { level = t.level; least = least_key t; greatest = greatest_key t; reach = reach t.ranges }
 
 -- ---- what a version names, in this order: the tables; their ranges, where all are opened; the log, where these have no fault
 
@@ -74,18 +82,18 @@ pub data FirstDamage (spelling : Spelling) (first_fault : Bytes → FilterFault)
 -- ---- an image in which opening finds nothing wrong
 
 -- This version is in use, index and filter of each of its tables are sound, their ranges break no rule, and the log in use
--- spells these entries. Opening reads no block.
-pub record OpensWith (spelling : Spelling) (v : Version) (entries : List Entry) (image : Image) : Type 0 where
+-- spells these changes. Opening reads no block.
+pub record OpensWith (spelling : Spelling) (v : Version) (changes : List Change) (image : Image) : Type 0 where
   pub version_is : IsVersionOf v image
   pub tables : AllByRecursion (IsOpened spelling image) v.rows
   pub ranges : ranges_fault (map (key_range_of image) v.rows) ≡ None
   pub area : ℕ
   pub area_is : v.log_page ≡ log_page_of area
-  pub log : LogIs area entries image
+  pub log : LogIs area changes image
 
 -- what is opened then, where the rows' pages spell these tables
-abbrev pub opened_state : Version → List Entry → List Table → State
-opened_state v log tables = record { settings = settings_of v; pages = v.pages; epoch = v.epoch; log = map Sets log; tables = tables; job = None; kept = [] }
+abbrev pub opened_state : Version → List Change → List Table → State
+opened_state v log tables = record { settings = settings_of v; pages = v.pages; epoch = v.epoch; log = log; tables = tables; job = None; kept = [] }
 
 -- ---- laws
 
@@ -94,25 +102,28 @@ opened_state v log tables = record { settings = settings_of v; pages = v.pages; 
 abbrev pub AnImageOpens : Type 0
 AnImageOpens =
     (spelling : Spelling) (first_fault : Bytes → FilterFault) (image : Image) → IsDecided spelling → IsOfBytes image
-    → IsNoStore image ⊎ (((d : Damage) × FirstDamage spelling first_fault image d) ⊎ ((v : Version) × (log : List Entry) × OpensWith spelling v log image))
+    → IsNoStore image ⊎ (((d : Damage) × FirstDamage spelling first_fault image d) ⊎ ((v : Version) × (log : List Change) × OpensWith spelling v log image))
 
 -- what opens has no damage
 abbrev pub OpenedHasNoDamage : Type 0
 OpenedHasNoDamage =
-    (spelling : Spelling) (first_fault : Bytes → FilterFault) (v : Version) (log : List Entry) (image : Image) (d : Damage) → SpellsOne spelling
+    (spelling : Spelling) (first_fault : Bytes → FilterFault) (v : Version) (log : List Change) (image : Image) (d : Damage) → SpellsOne spelling
     → OpensWith spelling v log image → FirstDamage spelling first_fault image d → ⊥
 
--- An image that stands for a state opens with the entries of its log, and one that opens stands for a state where each row's pages spell a
--- table.
+-- An image that stands for a state opens with its log, and one that opens stands for a state where each row's pages spell a
+-- table, the log sets entries alone, and no table has a range.
 abbrev pub StateOpens : Type 0
-StateOpens =
-    (spelling : Spelling) (s : State) (image : Image) → IsStateOf spelling s image
-    → (v : Version) × (log : List Entry) × OpensWith spelling v log image × (s.log ≡ map Sets log)
+StateOpens = (spelling : Spelling) (s : State) (image : Image) → IsStateOf spelling s image → (v : Version) × OpensWith spelling v s.log image
 
 abbrev pub OpenedIsState : Type 0
 OpenedIsState =
-    (spelling : Spelling) (v : Version) (log : List Entry) (tables : List Table) (image : Image) → OpensWith spelling v log image
-    → AreTablesOf spelling v.rows tables image → IsStateOf spelling (opened_state v log tables) image
+    (spelling : Spelling) (v : Version) (log : List Change) (entries : List Entry) (tables : List Table) (image : Image) → OpensWith spelling v log image
+    → AreTablesOf spelling v.rows tables image → HasOnlyEntries (opened_state v log tables) entries → IsStateOf spelling (opened_state v log tables) image
+
+-- Of two tables whose levels do not fall, rule 12 lets the second follow exactly where the first comes before it, its ranges
+-- counted.
+abbrev pub FollowsAsItStands : Type 0
+FollowsAsItStands = (t u : Table) → t.level ≤ u.level → (follows (range_of_table t) (range_of_table u) ≡ true) ↔ StandsBefore t u
 
 -- there is one damage at most
 abbrev pub OneDamage : Type 0

@@ -5,7 +5,7 @@ use Rattle.std.specs.List.{AllByRecursion, AllPairs}
 use Rattle.extent_model.proofs.Lists.{Pairs, all_kept, all_pairs, all_pass}
 use Rattle.level_merge.specs.Outlines.{by_numbers, outline, outline_of, outlines, table_number}
 use Rattle.level_merge.proofs.Outlines.{IsNumbered, all_numbered, all_taken}
-use Rattle.state_model.specs.Merges.{Plan, choose, first_over, is_over, meets, on_level, plan_of}
+use Rattle.state_model.specs.Merges.{Plan, choose, first_over, is_over, reaches_into, on_level, plan_of}
 use Rattle.table_file.specs.Opened.{Opened}
 use Rattle.table_model.specs.Tables.{Table}
 
@@ -81,9 +81,9 @@ levels_differ ts a b t u other is at same =
 -- some of a level, and what they meet on another one
 plan_apart : (ts : List Opened) (tables : List Table) (a b : ℕ) → a ≢ b → Pairs Differ tables → AllByRecursion (IsOn ts a) tables → Pairs Differ (plan_of (outlines ts) tables b).inputs
 plan_apart ts tables a b other pairs on =
-    let met = filter (meets tables) (on_level b (outlines ts)) in
-    let there = all_kept (IsOn ts b) (meets tables) (on_level b (outlines ts)) (all_on ts b) in
-    pairs_joined Differ tables met pairs (pairs_kept Differ (meets tables) (on_level b (outlines ts)) (pairs_kept Differ (λ (t : Table). t.level == b) (outlines ts) (outlines_differ ts)))
+    let met = filter (reaches_into tables) (on_level b (outlines ts)) in
+    let there = all_kept (IsOn ts b) (reaches_into tables) (on_level b (outlines ts)) (all_on ts b) in
+    pairs_joined Differ tables met pairs (pairs_kept Differ (reaches_into tables) (on_level b (outlines ts)) (pairs_kept Differ (λ (t : Table). t.level == b) (outlines ts) (outlines_differ ts)))
     (all_of (IsOn ts a) (λ t. AllByRecursion (Differ t) met) tables (λ t is. all_of (IsOn ts b) (Differ t) met (λ u at. levels_differ ts a b t u other is at) there) on)
 
 one_plan : (p q : Plan) → Some p ≡ Some q → p ≡ q

@@ -33,7 +33,7 @@ use Rattle.merge_rows.proofs.Merged.{merged_rises, merged_says, said_by}
 use Rattle.state_model.specs.Changes.{live_entries}
 use Rattle.state_model.specs.Merges.{is_deepest, lasting, outputs_for, outputs_of}
 use Rattle.state_model.specs.View.{memory}
-use Rattle.state_model.specs.WithoutRanges.{HasNoRange, HasOnlyEntries, table_entries}
+use Rattle.state_model.specs.WithoutRanges.{HasNoRange, table_entries}
 use Rattle.state_model.proofs.Sayings.{newest-append, newest_again, newest_entries_rise, source_sound}
 use Rattle.state_model.proofs.WithoutRanges.{live_alone, memory_alone, planned_alone}
 use Rattle.table_file.specs.Laws.{StandingBlocks}
@@ -109,14 +109,13 @@ module _ (spelling : Spelling) (opened : List Opened) (tables : List Table) (ima
     blocks : List (List (List Entry))
     stand : NumberedStand spelling opened image which blocks
     entries : map (λ (b : List (List Entry)). joined b) blocks ≡ lists_of inputs
-    no_ranges : AllByRecursion HasNoRange inputs
 
   first_named : (number : ℕ) (which : List ℕ) (t : Table) (inputs : List Table) → map (numbered tables) (number ∷ which) ≡ map (λ (t : Table). Some t) (t ∷ inputs)
       → (numbered tables number ≡ Some t) × (map (numbered tables) which ≡ map (λ (t : Table). Some t) inputs)
   first_named number which t inputs same = (cc, cc)
 
   all_stand : (which : List ℕ) (inputs : List Table) → map (numbered tables) which ≡ map (λ (t : Table). Some t) inputs → StandWith which inputs
-  all_stand [] [] same = record { blocks = []; stand = tt; entries = refl; no_ranges = tt }
+  all_stand [] [] same = record { blocks = []; stand = tt; entries = refl }
   all_stand [] (t ∷ inputs) same = absurd cc
   all_stand (number ∷ which) [] same = absurd cc
   all_stand (number ∷ which) (t ∷ inputs) same =
@@ -127,7 +126,6 @@ module _ (spelling : Spelling) (opened : List Opened) (tables : List Table) (ima
         blocks = here.2.blocks ∷ rest.blocks;
         stand = ((here.0, here.1, here.2.stands), rest.stand);
         entries = ap₂ (λ (x : List Entry) (l : List (List Entry)). x ∷ l) (sym (ap (λ (u : Table). u.entries) here.2.table_is)) rest.entries;
-        no_ranges = (ap (λ (u : Table). u.ranges) here.2.table_is, rest.no_ranges);
       }
 
   -- ---- what it makes
@@ -191,6 +189,22 @@ module _ (spelling : Spelling) (opened : List Opened) (tables : List Table) (ima
 
 -- ---- a plan
 
+-- where no table has a range, none of some numbers has one
+none_at : (tables : List Table) (place : ℕ) (t : Table) → AllByRecursion HasNoRange tables → slice_get tables place ≡ Some t → HasNoRange t
+none_at [] place t none there = absurd cc
+none_at (u ∷ tables) zero t none there = subst HasNoRange (some_is u t there) none.0
+none_at (u ∷ tables) (suc place) t none there = none_at tables place t none.1 there
+
+none_named : (tables : List Table) (which : List ℕ) (inputs : List Table) → AllByRecursion HasNoRange tables → map (numbered tables) which ≡ map (λ (t : Table). Some t) inputs
+    → AllByRecursion HasNoRange inputs
+none_named tables [] [] none same = tt
+none_named tables [] (t ∷ inputs) none same = absurd cc
+none_named tables (number ∷ which) [] none same = absurd cc
+none_named tables (number ∷ which) (t ∷ inputs) none same =
+    let here : numbered tables number ≡ Some t = cc in
+    let rest : map (numbered tables) which ≡ map (λ (t : Table). Some t) inputs = cc in
+    (none_at tables (length tables - 1 - number) t none here, none_named tables which inputs none rest)
+
 same_length : {A B C : Type 0} (f : A → C) (g : B → C) (xs : List A) (ys : List B) → map f xs ≡ map g ys → length xs ≡ length ys
 same_length f g [] [] same = refl
 same_length f g [] (y ∷ ys) same = absurd cc
@@ -213,7 +227,7 @@ merge_begins merges spelling settings opened tables inputs image which entries o
     begins spelling opened tables image held merges settings inputs which entries output drops same rise
 
 pub begun_follows : StandingMerges → StandingBlocks → BegunFollows
-begun_follows merges standing spelling s opened image p plan held may is =
+begun_follows merges standing spelling s opened image p plan held none may is =
     let drops = not (list_any (λ (t : Opened). nat_lt p.output t.row.level) opened) in
     let made = begins spelling opened s.tables image held merges s.settings plan.inputs p.inputs None p.output drops is.0 tt in
     let deepest : drops ≡ is_deepest s.tables plan.output =
@@ -228,7 +242,7 @@ begun_follows merges standing spelling s opened image p plan held may is =
       output = is.1;
       to_read = all_read spelling opened s.tables image held standing p.inputs plan.inputs is.0;
       left = outputs;
-      left_are = planned_alone s.tables plan (all_stand spelling opened s.tables image held p.inputs plan.inputs is.0).no_ranges;
+      left_are = planned_alone s.tables plan (none_named s.tables p.inputs plan.inputs none is.0);
       makes = subst (λ (outputs : List (List Entry)). OutputsLeft spelling opened image (begun p s.settings opened) outputs []) left made;
     }
 
@@ -246,14 +260,13 @@ all_named (t ∷ tables) =
     (all_later t tables (all_numbers (length tables)) (numbers_below (length tables) (length tables) (omega arith)) ∙ all_named tables)
 
 pub compaction_makes : StandingMerges → CompactionMakes
-compaction_makes merges spelling s entries opened image sets held =
+compaction_makes merges spelling s entries opened image only held =
     let many = as_many spelling opened s.tables image held in
     let named = subst (λ (n : ℕ). map (numbered s.tables) (all_numbers n) ≡ map (λ (t : Table). Some t) s.tables) (sym many) (all_named s.tables) in
     let made = begins spelling opened s.tables image held merges s.settings s.tables (all_numbers (length opened)) (Some (memory s)) 6 true named (source_sound s.log).rises in
-    let alone_are : HasOnlyEntries s entries = record { log = sets; tables = (all_stand spelling opened s.tables image held (all_numbers (length opened)) s.tables named).no_ranges } in
     let live : newest_entries (table_entries s.tables ++ memory s) ≡ newest_entries (table_entries s.tables ++ entries) =
-    ap (λ (source : Source). newest_entries (table_entries s.tables ++ source.entries)) (memory_alone s entries alone_are) ∙ newest_of_newest (table_entries s.tables) entries in
+    ap (λ (source : Source). newest_entries (table_entries s.tables ++ source.entries)) (memory_alone s entries only) ∙ newest_of_newest (table_entries s.tables) entries in
     let left : outputs_of (length (all_numbers (length opened)) - 1) (lasting true (newest_entries (table_entries s.tables ++ memory s))) ≡ outputs_for s.tables (live_entries s) =
     ap₂ (λ (n : ℕ) (es : List Entry). outputs_of (n - 1) (lasting true es)) (many_named s.tables (all_numbers (length opened)) s.tables named) live
-    ∙ ap (outputs_for s.tables) (sym (live_alone s entries alone_are)) in
+    ∙ ap (outputs_for s.tables) (sym (live_alone s entries only)) in
     subst (λ (outputs : List (List Entry)). OutputsLeft spelling opened image (compaction (memory s) s.settings opened) outputs []) left made

@@ -15,6 +15,7 @@ use Rattle.level_merge.specs.FollowLaws.{OtherImageIsFollowed}
 use Rattle.store_search.specs.TablesAgree.{TableAgrees, TablesAgree}
 use Rattle.level_merge.specs.JobValue.{JobValue, outputs_left, outputs_with}
 use Rattle.map_model.specs.SortedMap.{Bytes}
+use Rattle.range_model.specs.Ranges.{DeletedRange}
 use Rattle.merge_rows.specs.Merges.{Merge, TableWalk, blocks_in, left_above, with_hand}
 use Rattle.merge_rows.specs.Rows.{KeyFloor, above_floor, merged_rows, rows_shown}
 use Rattle.merge_rows.specs.Steps.{AreSoundWalks, IsSoundMerge, IsSoundWalk}
@@ -102,8 +103,8 @@ same_cut test (b ∷ bs) (c ∷ cs) each_b each_c same last follow =
     let rest = follow_rest test b (joined bs) follow in
     ap₂ (λ (x : List Entry) (l : List (List Entry)). x ∷ l) first (same_cut rest.0 bs cs each_b.1 each_c.1 (same_rest b c (joined bs) (joined cs) first same) later rest.1)
 
-index_rows : (ps qs : List Bytes) → index_of_pieces ps ≡ index_of_pieces qs → map row_of_piece ps ≡ map row_of_piece qs
-index_rows ps qs same = sym (rows_of_index ps) ∙ ap (λ (i : Index). i.rows) same ∙ rows_of_index qs
+index_rows : (ps qs : List Bytes) (rs ts : List DeletedRange) → index_of_pieces ps rs ≡ index_of_pieces qs ts → map row_of_piece ps ≡ map row_of_piece qs
+index_rows ps qs rs ts same = sym (rows_of_index ps rs) ∙ ap (λ (i : Index). i.rows) same ∙ rows_of_index qs ts
 
 -- ---- the tables of two images
 
@@ -113,7 +114,7 @@ module _ (standing : StandingBlocks) (spelling : Spelling) (image other : Image)
       let entries : joined here.blocks ≡ joined there.blocks = sym (ap (λ (v : Table). v.entries) here.table_is) ∙ ap (λ (v : Table). v.entries) there.table_is in
       let a = here.stands.at in
       let b = there.stands.at in
-      let rows = index_rows a.pieces b.pieces (sym here.stands.index_is ∙ there.stands.index_is) in
+      let rows = index_rows a.pieces b.pieces a.ranges b.ranges (sym here.stands.index_is ∙ there.stands.index_is) in
       let lasts = ap (map last_key) (sym a.read) ∙ rows_lasts a.pieces b.pieces rows ∙ ap (map last_key) b.read in
       let cut = same_cut is_any here.blocks there.blocks (each_some spelling t here.blocks image here.stands) (each_some spelling t there.blocks other there.stands) entries lasts a.table.rising in
       (standing spelling t here.blocks image here.stands).on_device ∙ cut ∙ sym (standing spelling t there.blocks other there.stands).on_device

@@ -6,7 +6,7 @@ use Rattle.std.proofs.lemmas.List.{at_drop_more, length-drop}
 use Rattle.block_model.proofs.Bounds.{weaker}
 use Rattle.extent_model.proofs.Lists.{all_kept}
 use Rattle.level_merge.specs.Outlines.{nothing, overlaps, plan_by_keys, table_number, outline, outline_of, outlines}
-use Rattle.state_model.specs.Merges.{greatest_of, least_of, meets, on_level, plan_of}
+use Rattle.state_model.specs.Merges.{greatest_of, least_of, on_level, plan_of, reaches_into}
 use Rattle.state_model.specs.WithoutRanges.{HasNoRange}
 use Rattle.state_model.proofs.Parts.{keep_same}
 use Rattle.state_model.proofs.WithoutRanges.{meets_alone}
@@ -122,6 +122,6 @@ outlines_alone (t ∷ later) = (refl, outlines_alone later)
 pub planned_by_keys : (ts : List Opened) (chosen : List Table) (output : ℕ) → AllByRecursion HasNoRange chosen → plan_by_keys (outlines ts) chosen output ≡ plan_of (outlines ts) chosen output
 planned_by_keys ts chosen output none =
     ap (λ (met : List Table). record { inputs = chosen ++ met; output = output })
-    (keep_same (overlaps (least_of chosen) (greatest_of chosen)) (meets chosen) (on_level output (outlines ts))
-    (weaker HasNoRange (λ (t : Table). overlaps (least_of chosen) (greatest_of chosen) t ≡ meets chosen t) (λ t own. sym (meets_alone chosen t none own)) (on_level output (outlines ts))
+    (keep_same (overlaps (least_of chosen) (greatest_of chosen)) (reaches_into chosen) (on_level output (outlines ts))
+    (weaker HasNoRange (λ (t : Table). overlaps (least_of chosen) (greatest_of chosen) t ≡ reaches_into chosen t) (λ t own. sym (meets_alone chosen t none own)) (on_level output (outlines ts))
     (all_kept HasNoRange (λ (t : Table). t.level == output) (outlines ts) (outlines_alone ts))))

@@ -7,7 +7,7 @@ use Rattle.map_model.specs.SortedMap.{Bytes}
 use Rattle.key_base.specs.ByteOrder.{is_before}
 use Rattle.range_model.specs.Ranges.{DeletedRange}
 use Rattle.range_model.specs.Reach.{reach}
-use Rattle.state_model.specs.Merges.{Plan, choose, first_over, greater, greatest_key, greatest_of, is_over, least_key, least_of, lesser, level_limit, meets, on_level, plan_of}
+use Rattle.state_model.specs.Merges.{Plan, choose, first_over, greater_key, greatest_key, greatest_of, is_over, least_key, least_of, lesser_key, level_limit, reaches_into, on_level, plan_of}
 use Rattle.table_model.specs.Tables.{Table}
 
 -- all that a choice looks at
@@ -65,45 +65,45 @@ as_many_pages R (t ∷ ts) (u ∷ us) like each =
     sum_by-cons (λ (t : Table). t.pages) t ts ∙ ap (λ n. n + sum_by (λ (t : Table). t.pages) ts) pages ∙ ap (λ n. u.pages + n) rest ∙ sym (sum_by-cons (λ (t : Table). t.pages) u us)
 
 same_least : (R : Table → Table → Type 0) (key : Bytes) (ts us : List Table) → Likens R → Each R ts us
-    → fold (λ key (u : Table). lesser key (least_key u)) key ts ≡ fold (λ key (u : Table). lesser key (least_key u)) key us
+    → fold (λ key (u : Table). lesser_key key (least_key u)) key ts ≡ fold (λ key (u : Table). lesser_key key (least_key u)) key us
 same_least R key [] [] like each = refl
 same_least R key [] (u ∷ us) like each = absurd each
 same_least R key (t ∷ ts) [] like each = absurd each
 same_least R key (t ∷ ts) (u ∷ us) like each =
-    same_least R (lesser key (least_key t)) ts us like each.1
-    ∙ ap (λ k. fold (λ key (u : Table). lesser key (least_key u)) (lesser key k) us) (like t u each.0).least
+    same_least R (lesser_key key (least_key t)) ts us like each.1
+    ∙ ap (λ k. fold (λ key (u : Table). lesser_key key (least_key u)) (lesser_key key k) us) (like t u each.0).least
 
 same_greatest : (R : Table → Table → Type 0) (key : Bytes) (ts us : List Table) → Likens R → Each R ts us
-    → fold (λ key (u : Table). greater key (greatest_key u)) key ts ≡ fold (λ key (u : Table). greater key (greatest_key u)) key us
+    → fold (λ key (u : Table). greater_key key (greatest_key u)) key ts ≡ fold (λ key (u : Table). greater_key key (greatest_key u)) key us
 same_greatest R key [] [] like each = refl
 same_greatest R key [] (u ∷ us) like each = absurd each
 same_greatest R key (t ∷ ts) [] like each = absurd each
 same_greatest R key (t ∷ ts) (u ∷ us) like each =
-    same_greatest R (greater key (greatest_key t)) ts us like each.1
-    ∙ ap (λ k. fold (λ key (u : Table). greater key (greatest_key u)) (greater key k) us) (like t u each.0).greatest
+    same_greatest R (greater_key key (greatest_key t)) ts us like each.1
+    ∙ ap (λ k. fold (λ key (u : Table). greater_key key (greatest_key u)) (greater_key key k) us) (like t u each.0).greatest
 
 least_alike : (R : Table → Table → Type 0) (ts us : List Table) → Likens R → Each R ts us → least_of ts ≡ least_of us
 least_alike R [] [] like each = refl
 least_alike R [] (u ∷ us) like each = absurd each
 least_alike R (t ∷ ts) [] like each = absurd each
 least_alike R (t ∷ ts) (u ∷ us) like each =
-    same_least R (least_key t) ts us like each.1 ∙ ap (λ k. fold (λ key (u : Table). lesser key (least_key u)) k us) (like t u each.0).least
+    same_least R (least_key t) ts us like each.1 ∙ ap (λ k. fold (λ key (u : Table). lesser_key key (least_key u)) k us) (like t u each.0).least
 
 greatest_alike : (R : Table → Table → Type 0) (ts us : List Table) → Likens R → Each R ts us → greatest_of ts ≡ greatest_of us
 greatest_alike R [] [] like each = refl
 greatest_alike R [] (u ∷ us) like each = absurd each
 greatest_alike R (t ∷ ts) [] like each = absurd each
 greatest_alike R (t ∷ ts) (u ∷ us) like each =
-    same_greatest R (greatest_key t) ts us like each.1 ∙ ap (λ k. fold (λ key (u : Table). greater key (greatest_key u)) k us) (like t u each.0).greatest
+    same_greatest R (greatest_key t) ts us like each.1 ∙ ap (λ k. fold (λ key (u : Table). greater_key key (greatest_key u)) k us) (like t u each.0).greatest
 
 same_reach : (R : Table → Table → Type 0) (key : Bytes) (ts us : List Table) → Likens R → Each R ts us
-    → fold (λ key (u : Table). greater key (reach u.ranges)) key ts ≡ fold (λ key (u : Table). greater key (reach u.ranges)) key us
+    → fold (λ key (u : Table). greater_key key (reach u.ranges)) key ts ≡ fold (λ key (u : Table). greater_key key (reach u.ranges)) key us
 same_reach R key [] [] like each = refl
 same_reach R key [] (u ∷ us) like each = absurd each
 same_reach R key (t ∷ ts) [] like each = absurd each
 same_reach R key (t ∷ ts) (u ∷ us) like each =
-    same_reach R (greater key (reach t.ranges)) ts us like each.1
-    ∙ ap (λ (ranges : List DeletedRange). fold (λ key (u : Table). greater key (reach u.ranges)) (greater key (reach ranges)) us) (like t u each.0).ranges
+    same_reach R (greater_key key (reach t.ranges)) ts us like each.1
+    ∙ ap (λ (ranges : List DeletedRange). fold (λ key (u : Table). greater_key key (reach u.ranges)) (greater_key key (reach ranges)) us) (like t u each.0).ranges
 
 -- ---- levels
 
@@ -120,7 +120,7 @@ abbrev meets_by : Bytes → List DeletedRange → Bytes → Bytes → Bytes → 
 meets_by greatest ranges least lo hi end =
     not (is_before greatest lo && not (is_before lo (reach ranges))) && not (is_before hi least && not (is_before least end))
 
-meets_alike : (R : Table → Table → Type 0) (vs ws : List Table) (t u : Table) → Likens R → Each R vs ws → IsLike t u → meets vs t ≡ meets ws u
+meets_alike : (R : Table → Table → Type 0) (vs ws : List Table) (t u : Table) → Likens R → Each R vs ws → IsLike t u → reaches_into vs t ≡ reaches_into ws u
 meets_alike R vs ws t u like some alike = λ i.
     meets_by (alike.greatest i) (alike.ranges i) (alike.least i) (least_alike R vs ws like some i) (greatest_alike R vs ws like some i) (same_reach R [] vs ws like some i)
 
@@ -129,8 +129,8 @@ meets_alike R vs ws t u like some alike = λ i.
 plans_alike : (R : Table → Table → Type 0) (ts us vs ws : List Table) (output : ℕ) → Likens R → Each R ts us → Each R vs ws
     → Each R (plan_of ts vs output).inputs (plan_of us ws output).inputs
 plans_alike R ts us vs ws output like all some =
-    each_joined R vs ws (filter (meets vs) (on_level output ts)) (filter (meets ws) (on_level output us)) some
-    (each_kept R (meets vs) (meets ws) (on_level output ts) (on_level output us) (λ t u r. meets_alike R vs ws t u like some (like t u r))
+    each_joined R vs ws (filter (reaches_into vs) (on_level output ts)) (filter (reaches_into ws) (on_level output us)) some
+    (each_kept R (reaches_into vs) (reaches_into ws) (on_level output ts) (on_level output us) (λ t u r. meets_alike R vs ws t u like some (like t u r))
     (on_level_alike R output ts us like all))
 
 -- the inputs are related, and the level is the same

@@ -37,7 +37,7 @@ module _ (spelling : Spelling) (built_cutoff : ℕ → List Leaf → ℕ) (old m
     row_of = record {
       entries = mid.built;
       table = places.table;
-      row_is = places.row_is ∙ ap (λ (m : JobValue). made_row spelling built_cutoff (record { settings = m.settings; entries = mid.built }) m.output row.first_page) rest;
+      row_is = places.row_is ∙ ap (λ (m : JobValue). made_row spelling built_cutoff (record { settings = m.settings; entries = mid.built; ranges = [] }) m.output row.first_page) rest;
     };
     on_device = places.on_device;
     apart = places.apart;

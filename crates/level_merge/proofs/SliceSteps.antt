@@ -1,5 +1,5 @@
 -- What a slice makes of a merge: rows that are taken, and an output that is closed.
-use Rattle.std.proofs.Common.{◌≡◌, ◌≢◌, inl, inr, ◌∙◌, ℕ, zero, suc, ◌-◌, ◌*◌, ◌<◌, ◌≤◌, Bool, true, false, List, [], ◌∷◌, ◌++◌, length, map, refl, sym, ap, subst, arith, append_assoc}
+use Rattle.std.proofs.Common.{◌≡◌, ◌≢◌, inl, inr, ◌∙◌, ℕ, zero, suc, ◌-◌, ◌*◌, ◌<◌, ◌≤◌, Bool, true, false, List, [], ◌∷◌, ◌++◌, length, map, refl, sym, ap, ap₂, subst, arith, append_assoc}
 use Rattle.std.specs.Prelude.{◌==◌, IsTrue, Ok, Some, slice_get}
 use Rattle.std.specs.List.{AllByRecursion}
 use Rattle.std.specs.List.Sorted.{IsPermutation}
@@ -41,7 +41,8 @@ use Rattle.table_file.specs.Laws.{StandingBlocks}
 use Rattle.table_file.specs.Opened.{Opened}
 use Rattle.table_file.specs.Search.{IsGetFault}
 use Rattle.table_file.specs.declared.fault.TableFault.TheVariants as table
-use Rattle.table_model.proofs.Kept.{at_kept, kept_pieces}
+use Rattle.table_model.proofs.Kept.{at_kept, kept_pieces, kept_ranges}
+use Rattle.table_model.specs.Images.{table_with}
 use Rattle.table_model.specs.Laws.{IsApartFromRow}
 use Rattle.table_model.specs.Pieces.{index_of_pieces}
 use Rattle.table_model.specs.Tables.{FilterBytes, Table, filter_bytes_of, table_of, table_pages}
@@ -54,12 +55,12 @@ module _ (spelling : Spelling) (at n : ℕ) (f g : Image) (torn : Torn at n f g)
     blocks = held.blocks;
     stands = record {
       at = at_kept spelling opened.row held.blocks at n f g apart torn held.stands.at;
-      index_is = held.stands.index_is ∙ sym (ap index_of_pieces (kept_pieces spelling opened.row held.blocks at n f g apart torn held.stands.at));
+      index_is = held.stands.index_is ∙ sym (ap₂ index_of_pieces (kept_pieces spelling opened.row held.blocks at n f g apart torn held.stands.at) (kept_ranges spelling opened.row held.blocks at n f g apart torn held.stands.at));
       hash_is = held.stands.hash_is;
       real_is = held.stands.real_is;
       leaves_are = held.stands.leaves_are;
     };
-    table_is = held.table_is;
+    table_is = held.table_is ∙ ap (table_with opened.row held.blocks) (sym (kept_ranges spelling opened.row held.blocks at n f g apart torn held.stands.at));
   }
 
   held_kept : (opened : List Opened) (tables : List Table) → AllByRecursion (λ (t : Opened). IsApartFromRow at n t.row) opened → TablesAgree spelling opened tables f

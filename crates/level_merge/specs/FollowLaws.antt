@@ -13,13 +13,12 @@ use Rattle.level_merge.specs.JobValue.{JobValue, begun, compaction, merge_of}
 use Rattle.level_merge.specs.Plans.{IsPlanOf, MayStart, PlanByNumbers, numbered}
 use Rattle.merge_rows.specs.Laws.{memory_entries}
 use Rattle.merge_rows.specs.Steps.{numbers}
-use Rattle.range_model.specs.Sources.{Sets}
 use Rattle.state_model.specs.Changes.{live_entries}
 use Rattle.state_model.specs.Merges.{Plan, lasting, outputs_for, outputs_of}
 use Rattle.state_model.specs.State.{Job, State}
 use Rattle.state_model.specs.Tends.{started}
 use Rattle.state_model.specs.View.{memory}
-use Rattle.state_model.specs.WithoutRanges.{table_entries}
+use Rattle.state_model.specs.WithoutRanges.{HasNoRange, HasOnlyEntries, table_entries}
 use Rattle.table_file.specs.Opened.{Opened}
 use Rattle.table_model.specs.Tables.{Table}
 
@@ -31,16 +30,16 @@ MergeBegins =
     → OutputsLeft spelling opened image (merge_of which entries output drops settings opened)
     (outputs_of (length which - 1) (lasting drops (newest_entries (table_entries inputs ++ memory_entries entries)))) []
 
--- a merge that begins follows the job that begins
+-- where no table has a range, a merge that begins follows the job that begins
 abbrev pub BegunFollows : Type 0
 BegunFollows =
     (spelling : Spelling) (s : State) (opened : List Opened) (image : Image) (p : PlanByNumbers) (plan : Plan) → TablesAgree spelling opened s.tables image
-    → MayStart opened p → IsPlanOf s.tables (Some p) (Some plan) → Follows spelling s opened image (begun p s.settings opened) (started plan)
+    → AllByRecursion HasNoRange s.tables → MayStart opened p → IsPlanOf s.tables (Some p) (Some plan) → Follows spelling s opened image (begun p s.settings opened) (started plan)
 
--- the merge of the memory, where the log sets entries alone, and of all tables makes the outputs of a compaction
+-- where neither the log nor a table has a range, the merge of the memory and of all tables makes the outputs of a compaction
 abbrev pub CompactionMakes : Type 0
 CompactionMakes =
-    (spelling : Spelling) (s : State) (entries : List Entry) (opened : List Opened) (image : Image) → s.log ≡ map Sets entries → TablesAgree spelling opened s.tables image
+    (spelling : Spelling) (s : State) (entries : List Entry) (opened : List Opened) (image : Image) → HasOnlyEntries s entries → TablesAgree spelling opened s.tables image
     → OutputsLeft spelling opened image (compaction (memory s) s.settings opened) (outputs_for s.tables (live_entries s)) []
 
 -- a table of level 0 that is put before all others changes nothing for it

@@ -14,6 +14,7 @@ use Rattle.merge_rows.specs.Merges.{Merge, merge_from, rows_left}
 use Rattle.merge_rows.specs.Reads.{blocks_left}
 use Rattle.merge_rows.specs.Rows.{KeyFloor, clears}
 use Rattle.state_model.specs.Merges.{lasting, outputs_of, split_output}
+use Rattle.table_file.specs.Building.{Built}
 use Rattle.table_file.specs.Opened.{Opened}
 
 -- Its rows, the settings and the level of its outputs, whether tombstones are left out, how many outputs may come beside the one
@@ -64,9 +65,11 @@ pub record IsBuilding (floor : KeyFloor) (built : List Entry) : Type 0 where
   pub rising : Follow is_any (keys_of built)
   pub below : AreBelow floor built
 
--- what is so of each merge: its settings and its level are in range, and its rows are the newest entries with their tombstones
-pub record IsMerging (m : JobValue) (settings : Settings) : Type 0 where
-  pub same : settings ≡ m.settings
+-- What is so of each merge: what is built has its settings and no range, its settings and its level are in range, and its rows are
+-- the newest entries with their tombstones.
+pub record IsMerging (m : JobValue) (built : Built) : Type 0 where
+  pub same : built.settings ≡ m.settings
+  pub no_range : built.ranges ≡ []
   pub range : InRange m.settings
   pub level : (1 ≤ m.output) × (m.output ≤ max_level)
   pub whole : m.merge.drops ≡ false

@@ -15,9 +15,9 @@ use Rattle.filter_api.specs.Spellings.{Spelling}
 use Rattle.filter_model.specs.Leaves.{Leaf}
 use Rattle.level_merge.specs.declared.fault.JobFault.{JobFault}
 use Rattle.level_merge.specs.declared.fault.JobFault.TheVariants as fault
-use Rattle.table_file.specs.Building.{Built}
+use Rattle.table_file.specs.Building.{Built, source_in}
 use Rattle.table_file.specs.Writing.{made_row}
-use Rattle.table_model.specs.Tables.{Table, filter_bytes_of, table_of, table_pages}
+use Rattle.table_model.specs.Tables.{Table, filter_bytes_of, source_pages, table_from}
 
 -- the extent of a row
 abbrev pub extent_at : Row → Extent
@@ -25,14 +25,14 @@ extent_at row = (row.first_page, pages_of row)
 
 -- the table that it becomes on a level, at a page
 abbrev pub built_table : Spelling → (ℕ → List Leaf → ℕ) → Built → ℕ → ℕ → Table
-built_table spelling built_cutoff built level page = table_of (filter_bytes_of spelling built_cutoff) built.settings level page built.entries
+built_table spelling built_cutoff built level page = table_from (filter_bytes_of spelling built_cutoff) built.settings level page (source_in built)
 
 -- Its place is the first gap that holds it, its pages are taken, and its row is the last of some rows. It has the entries of a
 -- table.
 pub record PlacesOutput (spelling : Spelling) (built_cutoff : ℕ → List Leaf → ℕ) (built : Built) (level : ℕ) (old new : List Row) (free taken : Taken) (row : Row) : Type 0 where
-  pub place : first_gap free.pages free.extents (table_pages (filter_bytes_of spelling built_cutoff) built.settings built.entries) ≡ Some row.first_page
+  pub place : first_gap free.pages free.extents (source_pages (filter_bytes_of spelling built_cutoff) built.settings (source_in built)) ≡ Some row.first_page
   pub row_is : row ≡ made_row spelling built_cutoff built level row.first_page
-  pub pages_are : pages_of row ≡ table_pages (filter_bytes_of spelling built_cutoff) built.settings built.entries
+  pub pages_are : pages_of row ≡ source_pages (filter_bytes_of spelling built_cutoff) built.settings (source_in built)
   pub table : IsTable built.entries
   pub on_device : IsOnDevice free.pages (extent_at row)
   pub apart : AllByRecursion (AreApart (extent_at row)) free.extents

@@ -88,9 +88,9 @@ IsTakeFault tells tables which old new (fault.Full need gap) = ⊥
 
 -- ---- outputs
 
--- what is built, with its settings
+-- what is built, with its settings: entries alone
 abbrev pub built_of : JobValue → Built
-built_of m = record { settings = m.settings; entries = m.built }
+built_of m = record { settings = m.settings; entries = m.built; ranges = [] }
 
 -- the pages that it needs
 abbrev pub need_of : Spelling → (ℕ → List Leaf → ℕ) → JobValue → ℕ
@@ -123,7 +123,7 @@ WritesOutput spelling built_cutoff old new free taken before after =
 pub record IsRowOf (spelling : Spelling) (built_cutoff : ℕ → List Leaf → ℕ) (m : JobValue) (row : Row) : Type 0 where
   pub entries : List Entry
   pub table : IsTable entries
-  pub row_is : row ≡ made_row spelling built_cutoff (record { settings = m.settings; entries = entries }) m.output row.first_page
+  pub row_is : row ≡ made_row spelling built_cutoff (record { settings = m.settings; entries = entries; ranges = [] }) m.output row.first_page
 
 -- one more output has a place that was free
 pub record AddsOutput (spelling : Spelling) (built_cutoff : ℕ → List Leaf → ℕ) (old new : JobValue) (free taken : Taken) (row : Row) : Type 0 where

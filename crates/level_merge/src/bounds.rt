@@ -19,13 +19,13 @@ fn is_before(x: &[u8], y: &[u8]) -> bool
 }
 
 fn lesser<'a>(x: &'a [u8], y: &'a [u8]) -> &'a [u8]
-    ensures { result.now ≡ model.lesser x.now y.now }
+    ensures { result.now ≡ model.lesser_key x.now y.now }
 {
     if is_before(y, x) { y } else { x }
 }
 
 fn greater<'a>(x: &'a [u8], y: &'a [u8]) -> &'a [u8]
-    ensures { result.now ≡ model.greater x.now y.now }
+    ensures { result.now ≡ model.greater_key x.now y.now }
 {
     if is_before(x, y) { y } else { x }
 }

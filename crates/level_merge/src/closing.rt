@@ -6,8 +6,10 @@ ghost use Rattle.disk_trait.specs.World.{Now};
 ghost use Rattle.entry_model.specs.Entries.{IsEntry, keys_of};
 ghost use Rattle.store_search.specs.TablesAgree.{TableAgrees};
 ghost use Rattle.level_merge.specs.Outputs.{IsCloseFault, PlacesOutput, WritesPlaced, built_table, last_row};
+ghost use Rattle.range_model.specs.Sources.{BeginsAtOne};
+ghost use Rattle.table_file.specs.Building.{source_in};
 ghost use Rattle.table_file.specs.Writing.{opened_of};
-ghost use Rattle.table_model.specs.Tables.{filter_bytes_of, table_pages};
+ghost use Rattle.table_model.specs.Tables.{filter_bytes_of, source_pages};
 
 use crate::fault::JobFault;
 use byte_fields::Row;
@@ -30,11 +32,12 @@ pub(crate) fn write_output<F: RangeFilter, D: Disk>(
     requires some { 0 < length built.entries }
     requires each { AllByRecursion IsEntry built.entries }
     requires rising { Follow is_any (keys_of built.entries) }
+    requires begin { AllByRecursion (BeginsAtOne built.entries) built.ranges }
     ensures placed { OnOk result (PlacesOutput F.spelling F.built_cutoff built level outputs.old.items outputs.new.items extents.old extents.new (last_row outputs.new.items)) }
     ensures made { OnOk result (made.new.items ≡ made.old.items ++ opened_of F.built_cutoff built (last_row outputs.new.items) ∷ []) }
     ensures stands { IsTrue D.tells → OnOk result (Now (TableAgrees F.spelling (opened_of F.built_cutoff built (last_row outputs.new.items)) (built_table F.spelling F.built_cutoff built level (last_row outputs.new.items).first_page)) (D.world disk.new)) }
     ensures writes { WritesPlaced F.spelling F.built_cutoff built level outputs.old.items outputs.new.items extents.old extents.new (D.world disk.old) (D.world disk.new) }
-    ensures fault { IfErr result (IsCloseFault (table_pages (filter_bytes_of F.spelling F.built_cutoff) built.settings built.entries) extents.old (D.world disk.old) (D.world disk.new)) }
+    ensures fault { IfErr result (IsCloseFault (source_pages (filter_bytes_of F.spelling F.built_cutoff) built.settings (source_in built)) extents.old (D.world disk.old) (D.world disk.new)) }
 {
     let parts: Parts<F> = match built.finish() {
         Ok(parts) => parts,

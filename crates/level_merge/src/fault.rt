@@ -27,7 +27,7 @@ pub enum JobFault {
     Device(DiskFault),
     /// A block that was read is damaged.
     Damaged(Damage),
-    /// An output needs a given number of pages, and the largest gap has fewer.
+    /// An output needs `need` pages, and the largest gap has fewer.
     Full { need: u64, gap: u64 },
 }
 

@@ -76,7 +76,7 @@ impl<'m, F: RangeFilter> Model for Job<'m, F> {
       built = j.built.entries;
       outputs = j.outputs.items;
       made = j.made.items;
-    }) j.built.settings };
+    }) j.built };
 }
 
 impl<'m, F: RangeFilter> Job<'m, F> {
@@ -146,8 +146,8 @@ impl<'m, F: RangeFilter> Job<'m, F> {
         })
     }
 
-    /// Goes on with the merge: reads at most a given number of blocks, one or more, and on a device whose tables are not at most
-    /// twice as many; and writes an output where one is full, or where no row is left. `Ready` exactly where then nothing is
+    /// Goes on with the merge: reads at most a given number of blocks, one or more, and where the device
+    /// does not hold the tables at most twice as many; and writes an output where one is full, or where no row is left. `Ready` exactly where then nothing is
     /// left: rows that need no block are taken on. Each block that was passed is sound, and where nothing is left none was left
     /// out.
     pub fn slice<D: Disk>(
@@ -206,7 +206,7 @@ impl<'m, F: RangeFilter> Job<'m, F> {
         requires there { AreWalksIn tables.now.tables (stands self.old.merge.walks) }
         ensures { SliceContract F.spelling F.built_cutoff D.tells blocks tables.now.tables self.old self.new extents.old extents.new result (D.world disk.old) (D.world disk.new) }
     {
-        // the law of the tables: what is is read as it is, and no read of it is damage
+        // the law of the tables: a table that is there is read as it is, and no read of it is damage
         table_file::laws::standing_tables_are_read();
         match self.take_rows(disk, tables, blocks) {
             Ok(Stop::Blocks) => Ok(Sliced::Working),

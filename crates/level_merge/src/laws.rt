@@ -2,7 +2,7 @@
 ghost use Rattle.level_merge.specs.FollowLaws.{BegunFollows, CompactionMakes, FlushedIsFollowed, MergeBegins, OtherImageIsFollowed};
 ghost use Rattle.level_merge.specs.Laws.{OutputsFollow, StandingAgrees};
 
-/// Law: an open table that is on a device agrees with the table of its row and its blocks.
+/// Law: an open table that is a state's on a device, without ranges, agrees with it as far as memory tells.
 pub fn standing_tables_agree()
     ensures { StandingAgrees }
 {

@@ -45,6 +45,7 @@ pub(crate) fn take_rows<'m, F: RangeFilter, D: Disk>(
     ensures sources { SourcesStay D.tells tables.now.tables (D.world disk.old).seen.held rows.old rows.new }
     ensures building { IsBuilding rows.new.floor built.new.entries }
     ensures settings { built.new.settings ≡ built.old.settings }
+    ensures ranges { built.new.ranges ≡ built.old.ranges }
     ensures taken { OnOk result (FillsOutput D.tells tables.now.tables (D.world disk.old).seen.held beside drops rows.old rows.new built.old.entries built.new.entries) }
     ensures stop { IfOk result (IsStop D.tells blocks tables.now.tables (D.world disk.old).seen.held beside rows.old rows.new built.new.entries) }
     ensures ended { IfOk result (StopsAtEnd tables.now.tables rows.new) }

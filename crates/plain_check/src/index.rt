@@ -4,8 +4,10 @@ use crate::finding::{Stop, refuse, refuse_sum};
 use byte_fields::{Row, fnv1a};
 use std::alloc::{AllocError, Global};
 
-// `SRFI`.
+// `SRFI`, and `SRFJ` where ranges come after the rows.
 const MAGIC: u32 = 0x4946_5253;
+
+const RANGES_MAGIC: u32 = 0x4A46_5253;
 
 /// A row of an index.
 #[derive(Drop)]
@@ -41,7 +43,8 @@ fn judge_head(bytes: &[u8]) -> Result<(), Stop> {
     let length = bytes.len() as u64;
     let least = two(bytes, 8);
     refuse(length < 10 + u64::from(least), length, 1)?;
-    refuse(four(bytes, 0) != MAGIC, 0, 2)?;
+    let magic = four(bytes, 0);
+    refuse(magic != MAGIC && magic != RANGES_MAGIC, 0, 2)?;
     refuse(four(bytes, 4) == 0, 4, 3)?;
     refuse(is_no_key(least), 8, 4)
 }
@@ -86,6 +89,49 @@ fn add_row(alloc: Global, bytes: &[u8], place: u64, index: &mut Index) -> Result
     Ok(next)
 }
 
+// A range: its upper bound, and the place after it.
+#[derive(Drop)]
+struct Range {
+    end: Vec<u8>,
+    next: u64,
+}
+
+// The range at a place, with rules 1 and 10; its lower bound is above the end of the range before.
+fn range_at(alloc: Global, bytes: &[u8], place: u64, before: &[u8]) -> Result<Range, Stop> {
+    let length = bytes.len() as u64;
+    let low = two(bytes, place);
+    let middle = place.saturating_add(2 + u64::from(low));
+    let high = two(bytes, middle);
+    let next = middle.saturating_add(2 + u64::from(high));
+    refuse(length < next, length, 1)?;
+    refuse(is_no_key(low), place, 10)?;
+    refuse(is_no_key(high), middle, 10)?;
+    let start = part(alloc, bytes, place.saturating_add(2), u64::from(low))?;
+    let end = part(alloc, bytes, middle.saturating_add(2), u64::from(high))?;
+    let rises = comes_before(before, start.as_slice());
+    let runs = comes_before(start.as_slice(), end.as_slice());
+    refuse(!rises || !runs, place.saturating_add(2), 10)?;
+    Ok(Range { end, next })
+}
+
+// The place after the ranges that begin at this one, where the magic says that there are some.
+fn after_ranges(alloc: Global, bytes: &[u8], place: u64) -> Result<u64, Stop> {
+    if four(bytes, 0) != RANGES_MAGIC {
+        return Ok(place);
+    }
+    let length = bytes.len() as u64;
+    let many = four(bytes, place);
+    let next = place.saturating_add(4);
+    refuse(length < next, length, 1)?;
+    refuse(many == 0, place, 9)?;
+    let end = Vec::new(alloc);
+    let mut last = Range { end, next };
+    for _ in 0..many {
+        last = range_at(alloc, bytes, last.next, last.end.as_slice())?;
+    }
+    Ok(last.next)
+}
+
 // How many pages the blocks have.
 fn block_pages(index: &Index) -> u64 {
     let mut pages = 0u64;
@@ -105,7 +151,8 @@ fn index_in(alloc: Global, bytes: &[u8], data_pages: u32) -> Result<Index, Stop>
     for _ in 0..four(bytes, 4) {
         place = add_row(alloc, bytes, place, &mut index)?;
     }
-    refuse(place < bytes.len() as u64, place, 7)?;
+    let end = after_ranges(alloc, bytes, place)?;
+    refuse(end < bytes.len() as u64, end, 7)?;
     refuse(block_pages(&index) != u64::from(data_pages), 4, 8)?;
     Ok(index)
 }

@@ -1,9 +1,8 @@
 //! What is wrong with a device, and what is on it where nothing is.
-use crate::block::Entry;
 use crate::bytes::{byte_of_page, comes_before, part};
 use crate::finding::{Finding, What, found};
 use crate::live::live_pairs;
-use crate::log::records;
+use crate::log::{Log, log_in};
 use crate::slots::{Slots, Version, slots_of};
 use crate::table::{Table, add, look_at};
 use byte_fields::Part;
@@ -70,20 +69,24 @@ fn judge_order(
     Ok(())
 }
 
-// The records of the log, or what is wrong with it.
+// What the log has, or what is wrong with it.
 fn look_at_log(
     alloc: Global,
     bytes: &[u8],
     version: &Version,
     findings: &mut Vec<Finding>,
-) -> Result<Vec<Entry>, AllocError> {
+) -> Result<Log, AllocError> {
     let at = byte_of_page(u64::from(version.log_page));
     let area = part(alloc, bytes, at, 262_144)?;
-    match records(alloc, area.as_slice()) {
+    match log_in(alloc, area.as_slice()) {
         Ok(log) => Ok(log),
         Err(why) => {
             findings.push(found(Part::Log, at, why)?)?;
-            Ok(Vec::new(alloc))
+            let entries = Vec::new(alloc);
+            Ok(Log {
+                records: 0,
+                entries,
+            })
         }
     }
 }
@@ -102,7 +105,7 @@ fn look_at_tables(
     Ok(tables)
 }
 
-fn sizes_of(alloc: Global, tables: &[Table], log: &[Entry]) -> Result<Sizes, AllocError> {
+fn sizes_of(alloc: Global, tables: &[Table], log: &Log) -> Result<Sizes, AllocError> {
     let mut entries = 0u64;
     for table in tables {
         entries = entries.saturating_add(table.entries.len() as u64);
@@ -110,8 +113,8 @@ fn sizes_of(alloc: Global, tables: &[Table], log: &[Entry]) -> Result<Sizes, All
     Ok(Sizes {
         tables: tables.len() as u64,
         entries,
-        live: live_pairs(alloc, log, tables)?,
-        log: log.len() as u64,
+        live: live_pairs(alloc, log.entries.as_slice(), tables)?,
+        log: log.records,
     })
 }
 
@@ -124,7 +127,7 @@ fn check_version(alloc: Global, bytes: &[u8], version: &Version) -> Result<Check
     if !findings.is_empty() {
         return Ok(Checked::Wrong(findings));
     }
-    let sizes = sizes_of(alloc, tables.as_slice(), log.as_slice())?;
+    let sizes = sizes_of(alloc, tables.as_slice(), &log)?;
     Ok(Checked::Sound(sizes))
 }
 

@@ -1,6 +1,6 @@
 //! How many blocks a get and a closed seek may read, and what `estimate` and `explain` tell.
 ghost use Rattle.std.specs.Prelude.{◌≡◌, ◌&&◌, false, suc, filter, count_by, sum_by, Some, IfOk};
-ghost use Rattle.std.specs.Option.{option_map};
+ghost use Rattle.std.specs.Option.{option_map, option_map_or};
 ghost use Rattle.filter_model.specs.Strings.{is_before};
 ghost use Rattle.filter_model.specs.Answers.{tally};
 ghost use Rattle.map_model.specs.Slices.{is_between, seek};
@@ -148,7 +148,18 @@ fn stepped_in(
     stepped(lo, hi, answer, table.entries.as_slice())
 }
 
-/// The blocks that a closed seek may read: one of each table that admits the range, and one for each entry stepped over.
+// The key up to which a seek with this answer looks: that of the answer, or `hi` where there is none.
+fn looks_to<'a>(answer: Option<&'a Pair>, hi: &'a [u8]) -> &'a [u8]
+    ensures { result.now ≡ option_map_or (λ pair. pair.0) (option_map (λ pair. pair.now) answer.entry) hi.now }
+{
+    match answer {
+        Some(pair) => pair.key(),
+        None => hi,
+    }
+}
+
+/// The blocks that a closed seek may read: one of each table that admits `lo` to where it looks, and one for each entry stepped over.
+/// It looks up to its answer, or to `hi` where it finds none.
 pub fn seek_bound<F: RangeFilter>(
     alloc: Global,
     state: &State,
@@ -176,13 +187,13 @@ fn seek_blocks<F: RangeFilter>(
 ) -> Result<u64, AllocError>
     requires order { is_before hi.now lo.now ≡ false }
     requires answer { option_map (λ pair. pair.now) answer ≡ seek (state_map state.now) lo.now (Some hi.now) }
-    ensures { IfOk result (λ n. n ≡ sum_by (λ t. suc (model.stepped (state_map state.now) lo.now hi.now t)) (filter (model.admits_range lo.now hi.now) tables.now)) }
+    ensures { IfOk result (λ n. n ≡ sum_by (λ t. suc (model.stepped (state_map state.now) lo.now hi.now t)) (filter (model.admits_range lo.now (model.looks_to (state_map state.now) lo.now hi.now)) tables.now)) }
 {
     let Some((table, older)) = tables.split_first() else {
         return Ok(0);
     };
     let more = seek_blocks::<F>(alloc, state, lo, hi, answer, older)?;
-    if !admits_range::<F>(alloc, lo, hi, table)? {
+    if !admits_range::<F>(alloc, lo, looks_to(answer, hi), table)? {
         return Ok(more);
     }
     let stepped = stepped_in(state, lo, hi, answer, table)?;

@@ -167,11 +167,11 @@ fn record_length(change: &Change) -> Result<u64, AllocError>
 {
     match change {
         Change::Sets(entry) => entry_length(entry),
-        Change::Clears(range) => range_length(range),
+        Change::Clears(range) => range_record_length(range),
     }
 }
 
-fn range_length(range: &DeletedRange) -> Result<u64, AllocError>
+fn range_record_length(range: &DeletedRange) -> Result<u64, AllocError>
     ensures { IfOk result (λ n. n + 1 ≡ need_of (Clears range.now)) }
 {
     if range.lo().len() > MAX_KEY_BYTES || range.hi().len() > MAX_KEY_BYTES {

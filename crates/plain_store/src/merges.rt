@@ -82,18 +82,18 @@ fn all_below(tables: &[Table], key: &[u8]) -> bool
 }
 
 // Whether the table reaches into what some tables speak of.
-fn meets(tables: &[Table], table: &Table) -> bool
-    ensures { result ≡ model.meets tables.now table.now }
+fn reaches_into(tables: &[Table], table: &Table) -> bool
+    ensures { result ≡ model.reaches_into tables.now table.now }
 {
     !lies_below(table, least_of(tables)) && !all_below(tables, table.least_key())
 }
 
 // Appends copies of those of some tables that reach into what the chosen ones speak of.
 fn push_met(chosen: &[Table], tables: &[Table], list: &mut Vec<Table>) -> Result<(), AllocError>
-    ensures { OnOk result (list.new.items ≡ list.old.items ++ filter (model.meets chosen.now) tables.now) }
+    ensures { OnOk result (list.new.items ≡ list.old.items ++ filter (model.reaches_into chosen.now) tables.now) }
 {
     for table in tables {
-        if meets(chosen, table) {
+        if reaches_into(chosen, table) {
             push_table(table, list)?;
         }
     }

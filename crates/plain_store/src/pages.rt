@@ -1,7 +1,8 @@
 //! How many pages tables take.
 ghost use Rattle.std.specs.Prelude.{◌≡◌, ◌+◌, length, sum_by, IfOk};
 ghost use Rattle.block_model.specs.Pages as model;
-ghost use Rattle.table_model.specs.Tables.{filter_bytes_of, index_length_with, source_pages, table_from, table_pages};
+ghost use Rattle.block_model.specs.Pages.{index_length_with};
+ghost use Rattle.table_model.specs.Tables.{filter_bytes_of, source_pages, table_from, table_pages};
 
 use crate::filters::filter_length;
 use crate::ranges::{DeletedRange, copied_ranges};

@@ -1,6 +1,6 @@
 -- Where a step has no cause of a fault it is the answer.
 use Rattle.std.proofs.Common.{◌≡◌, ◌⊎◌, inl, inr, ℕ, ◌<◌, List, [], refl, sym, ap, ◌∙◌, Bool, true, false, cond, arith}
-use Rattle.std.specs.Prelude.{Option, Some, None, Result, Ok, Err, IsOk, filter, sum_by, suc, take}
+use Rattle.std.specs.Prelude.{Option, Some, None, Result, Ok, Err, IsOk, count_by, filter, sum_by, suc, take}
 use Rattle.byte_fields.specs.declared.parts.Damage.{Damage}
 use Rattle.key_base.specs.Limits.{last_epoch}
 use Rattle.map_model.specs.SortedMap.{Bytes, Map}
@@ -10,7 +10,7 @@ use Rattle.entry_model.specs.Newest.{lookup}
 use Rattle.state_model.specs.State.{State, without_job}
 use Rattle.table_model.specs.Tables.{FilterBytes, Table}
 use Rattle.state_model.specs.View.{memory, changes_of, state_map}
-use Rattle.state_model.specs.Bounds.{unless_found, searched, get_bound, seek_bound, stepped, admits_range}
+use Rattle.state_model.specs.Bounds.{unless_found, searched, get_bound, seek_bound, tables_between, looks_to, stepped, admits_range}
 use Rattle.state_model.specs.Changes.{written, flushed, compacted_outputs}
 use Rattle.state_model.specs.Merges.{NoRoom, placed}
 use Rattle.state_model.specs.Taken.{taken}
@@ -78,7 +78,10 @@ not_placed (Ok made) refusal e ok = absurd cc
 not_placed (Err other) refusal e ok = let wrong : false ≡ true = ok in cc
 
 pub crossed_bound : (s : State) (lo hi : Bytes) → is_before hi lo ≡ true → seek_bound s lo hi ≡ 0
-crossed_bound s lo hi e = ap (λ (b : Bool). cond b 0 (sum_by (λ (t : Table). suc (stepped (state_map s) lo hi t)) (filter (admits_range lo hi) s.tables))) e
+crossed_bound s lo hi e = ap (λ (b : Bool). cond b 0 (sum_by (λ (t : Table). suc (stepped (state_map s) lo hi t)) (filter (admits_range lo (looks_to (state_map s) lo hi)) s.tables))) e
+
+pub crossed_tables : (s : State) (lo hi : Bytes) → is_before hi lo ≡ true → tables_between s lo hi ≡ 0
+crossed_tables s lo hi e = ap (λ (b : Bool). cond b 0 (count_by (admits_range lo hi) s.tables)) e
 
 no_branch : (b : Bool) (n : ℕ) → cond b n n ≡ n
 no_branch true n = refl
@@ -86,8 +89,11 @@ no_branch false n = refl
 
 pub bare_bound : (s : State) (lo hi : Bytes) → s.tables ≡ [] → seek_bound s lo hi ≡ 0
 bare_bound s lo hi e =
-    ap (λ (ts : List Table). cond (is_before hi lo) 0 (sum_by (λ (t : Table). suc (stepped (state_map s) lo hi t)) (filter (admits_range lo hi) ts))) e
+    ap (λ (ts : List Table). cond (is_before hi lo) 0 (sum_by (λ (t : Table). suc (stepped (state_map s) lo hi t)) (filter (admits_range lo (looks_to (state_map s) lo hi)) ts))) e
     ∙ no_branch (is_before hi lo) 0
+
+pub bare_tables : (s : State) (lo hi : Bytes) → s.tables ≡ [] → tables_between s lo hi ≡ 0
+bare_tables s lo hi e = ap (λ (ts : List Table). cond (is_before hi lo) 0 (count_by (admits_range lo hi) ts)) e ∙ no_branch (is_before hi lo) 0
 
 pub found_bound : (s : State) (key : Bytes) (value : Option Bytes) → lookup (memory s) key ≡ Some value → get_bound s key ≡ 0
 found_bound s key value e = ap (λ (o : Option (Option Bytes)). unless_found o (searched key s.tables)) e
@@ -141,11 +147,11 @@ module _ (filter_bytes : FilterBytes) (s after : State) (reply : Reply) where
   pub seek_of_none : (lo hi : Bytes) → seek_bound s lo hi ≡ 0 → Step OfDevice filter_bytes s (Seek lo (Some hi)) reply after → IsAnswered filter_bytes s (Seek lo (Some hi)) reply after
   seek_of_none lo hi e = by_no_device filter_bytes s after (Seek lo (Some hi)) reply (not_below (seek_bound s lo hi) e) (λ w. w)
 
-  pub range_of_none : (lo hi : Bytes) (n : ℕ) → seek_bound s lo hi ≡ 0 → Step OfDevice filter_bytes s (Range lo hi n) reply after → IsAnswered filter_bytes s (Range lo hi n) reply after
-  range_of_none lo hi n e = by_no_device filter_bytes s after (Range lo hi n) reply (λ r. not_below (seek_bound s lo hi) e r.1) (λ w. w)
+  pub range_of_none : (lo hi : Bytes) (n : ℕ) → tables_between s lo hi ≡ 0 → Step OfDevice filter_bytes s (Range lo hi n) reply after → IsAnswered filter_bytes s (Range lo hi n) reply after
+  range_of_none lo hi n e = by_no_device filter_bytes s after (Range lo hi n) reply (λ r. not_below (tables_between s lo hi) e r.1) (λ w. w)
 
-  pub count_of_none : (lo hi : Bytes) → seek_bound s lo hi ≡ 0 → Step OfDevice filter_bytes s (Count lo hi) reply after → IsAnswered filter_bytes s (Count lo hi) reply after
-  count_of_none lo hi e = by_no_device filter_bytes s after (Count lo hi) reply (not_below (seek_bound s lo hi) e) (λ w. w)
+  pub count_of_none : (lo hi : Bytes) → tables_between s lo hi ≡ 0 → Step OfDevice filter_bytes s (Count lo hi) reply after → IsAnswered filter_bytes s (Count lo hi) reply after
+  count_of_none lo hi e = by_no_device filter_bytes s after (Count lo hi) reply (not_below (tables_between s lo hi) e) (λ w. w)
 
   pub range_none : (lo hi : Bytes) → Step OfDevice filter_bytes s (Range lo hi 0) reply after → IsAnswered filter_bytes s (Range lo hi 0) reply after
   range_none lo hi = by_no_device filter_bytes s after (Range lo hi 0) reply (λ r. not_below 0 refl r.0) (λ w. w)

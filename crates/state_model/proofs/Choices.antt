@@ -6,7 +6,7 @@ use Rattle.std.proofs.lemmas.List.{length-append}
 use Rattle.extent_model.proofs.Lists.{Pairs, pairs_of}
 use Rattle.state_model.specs.State.{State, Job}
 use Rattle.table_model.specs.Tables.{FilterBytes, Table}
-use Rattle.state_model.specs.Merges.{Plan, plan_of, on_level, meets, level_limit, is_over, first_over, choose}
+use Rattle.state_model.specs.Merges.{Plan, plan_of, on_level, reaches_into, level_limit, is_over, first_over, choose}
 use Rattle.state_model.specs.Sound.{IsSound, StandsBefore, MayRun, IsJob, plan_of_job}
 use Rattle.state_model.specs.Laws.{AreSomeOf}
 use Rattle.state_model.proofs.Levels.{deeper}
@@ -61,9 +61,9 @@ part_of_rest (suc n) xs (u ∷ all) part = part_of_more xs u all (part_of_rest n
 -- some tables of a level, and those of the next that they reach
 level_part : (a : ℕ) (all tables : List Table) → Pairs StandsBefore all → AreSomeOf tables (on_level a all) → AreSomeOf (plan_of all tables (a + 1)).inputs all
 level_part a all tables order part =
-    let reached = filter (meets tables) (on_level (a + 1) all) in
+    let reached = filter (reaches_into tables) (on_level (a + 1) all) in
     let two = part_join tables (reached ++ []) (on_level a all) (on_level (a + 1) all ++ deeper (a + 1) all) part
-    (part_join reached [] (on_level (a + 1) all) (deeper (a + 1) all) (part_kept (meets tables) (on_level (a + 1) all)) (part_none (deeper (a + 1) all))) in
+    (part_join reached [] (on_level (a + 1) all) (deeper (a + 1) all) (part_kept (reaches_into tables) (on_level (a + 1) all)) (part_none (deeper (a + 1) all))) in
     subst (λ (l : List Table). AreSomeOf (tables ++ l) all) (Rattle.std.proofs.lemmas.List.append-nil reached)
     (subst (AreSomeOf (tables ++ (reached ++ []))) (sym (parted a 0 all (levels_of all order)))
     (part_behind (tables ++ (reached ++ [])) (above a all) (on_level a all ++ (on_level (a + 1) all ++ deeper (a + 1) all)) two))
@@ -103,9 +103,9 @@ over_some limit (t ∷ more) e = omega arith
 
 pub chosen_some : (tables : List Table) (plan : Plan) → choose tables ≡ Some plan → 1 ≤ length plan.inputs
 chosen_some all plan e = choice_has (λ _ plan. 1 ≤ length plan.inputs) all plan (
-  λ some. omega (arith, some, length-append (on_level 0 all) (filter (meets (on_level 0 all)) (on_level 1 all))),
+  λ some. omega (arith, some, length-append (on_level 0 all) (filter (reaches_into (on_level 0 all)) (on_level 1 all))),
   λ level low high over. let one = take 1 (on_level level all) in
-      omega (arith, over_some (level_limit level) (on_level level all) over, length-append one (filter (meets one) (on_level (level + 1) all))),
+      omega (arith, over_some (level_limit level) (on_level level all) over, length-append one (filter (reaches_into one) (on_level (level + 1) all))),
 ) e
 
 pub chosen_output : (tables : List Table) (plan : Plan) → choose tables ≡ Some plan → (1 ≤ plan.output) × (plan.output ≤ 6)

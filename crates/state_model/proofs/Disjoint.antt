@@ -23,7 +23,7 @@ use Rattle.range_model.specs.Reach.{reach, lies_below}
 use Rattle.range_model.proofs.KeyOrders.{at_or_after}
 use Rattle.range_model.proofs.Reach.{both, nothing_below, nothing_from}
 use Rattle.table_model.specs.Tables.{Table, as_source}
-use Rattle.state_model.specs.Merges.{LiesBelow, all_below, greater, greatest_key, greatest_of, least_key, least_of, lesser, meets, reach_of}
+use Rattle.state_model.specs.Merges.{LiesBelow, all_below, greater_key, greatest_key, greatest_of, least_key, least_of, lesser_key, reaches_into, reach_of}
 use Rattle.key_base.specs.ByteOrder.{IsBefore}
 use Rattle.state_model.specs.Sound.{StandsBefore}
 use Rattle.state_model.proofs.Levels.{told, EitherNone, AllAt, AtMostOne, says}
@@ -57,16 +57,16 @@ test_of x y less = ap is_lt less
 pub crossed : (x y : Bytes) → Upto x y → IsBefore y x → ⊥
 crossed x y upto less = let e = sym (not_before x y upto) ∙ ap is_lt less in cc
 
-pub lesser_first : (x y : Bytes) → Upto (lesser x y) x
+pub lesser_first : (x y : Bytes) → Upto (lesser_key x y) x
 lesser_first x y = by_order (λ o. Upto (cond (is_lt o) y x) x) y x (λ less. inr less) (λ _. inl refl) (λ _. inl refl)
 
-pub lesser_second : (x y : Bytes) → Upto (lesser x y) y
+pub lesser_second : (x y : Bytes) → Upto (lesser_key x y) y
 lesser_second x y = by_order (λ o. Upto (cond (is_lt o) y x) y) y x (λ _. inl refl) (λ equal. inl (sym (equal_keys y x equal))) (λ more. inr (less_of_greater y x more))
 
-pub greater_first : (x y : Bytes) → Upto x (greater x y)
+pub greater_first : (x y : Bytes) → Upto x (greater_key x y)
 greater_first x y = by_order (λ o. Upto x (cond (is_lt o) y x)) x y (λ less. inr less) (λ _. inl refl) (λ _. inl refl)
 
-pub greater_second : (x y : Bytes) → Upto y (greater x y)
+pub greater_second : (x y : Bytes) → Upto y (greater_key x y)
 greater_second x y = by_order (λ o. Upto y (cond (is_lt o) y x)) x y (λ _. inl refl) (λ equal. inl (sym (equal_keys x y equal))) (λ more. inr (less_of_greater x y more))
 
 -- ---- a key that a table has
@@ -169,13 +169,13 @@ abbrev pub ends_below : Bytes → Bytes → Bytes → Bool
 ends_below last end key = is_before last key && not (is_before key end)
 
 -- below the greater ends lies what lies below both
-before_greater : (x y key : Bytes) → is_before (greater x y) key ≡ true → (is_before x key ≡ true) × (is_before y key ≡ true)
-before_greater x y key e = (test_of x key (upto_test x (greater x y) key (greater_first x y) e), test_of y key (upto_test y (greater x y) key (greater_second x y) e))
+before_greater : (x y key : Bytes) → is_before (greater_key x y) key ≡ true → (is_before x key ≡ true) × (is_before y key ≡ true)
+before_greater x y key e = (test_of x key (upto_test x (greater_key x y) key (greater_first x y) e), test_of y key (upto_test y (greater_key x y) key (greater_second x y) e))
 
-from_greater : (x y key : Bytes) → is_before key (greater x y) ≡ false → (is_before key x ≡ false) × (is_before key y ≡ false)
+from_greater : (x y key : Bytes) → is_before key (greater_key x y) ≡ false → (is_before key x ≡ false) × (is_before key y ≡ false)
 from_greater x y key e = (
-  not_before x key (upto_then x (greater x y) key (greater_first x y) (upto_of_test (greater x y) key e)),
-  not_before y key (upto_then y (greater x y) key (greater_second x y) (upto_of_test (greater x y) key e)),
+  not_before x key (upto_then x (greater_key x y) key (greater_first x y) (upto_of_test (greater_key x y) key e)),
+  not_before y key (upto_then y (greater_key x y) key (greater_second x y) (upto_of_test (greater_key x y) key e)),
 )
 
 both_ends : (last end key : Bytes) → ends_below last end key ≡ true → (is_before last key ≡ true) × (is_before key end ≡ false)
@@ -185,21 +185,21 @@ of_ends : (last end key : Bytes) → is_before last key ≡ true → is_before k
 of_ends last end key e f = ap₂ (λ (x y : Bool). x && not y) e f
 
 abbrev pub lower_of : Bytes → List Table → Bytes
-lower_of start tables = fold (λ key (u : Table). lesser key (least_key u)) start tables
+lower_of start tables = fold (λ key (u : Table). lesser_key key (least_key u)) start tables
 
 abbrev pub upper_of : Bytes → List Table → Bytes
-upper_of start tables = fold (λ key (u : Table). greater key (greatest_key u)) start tables
+upper_of start tables = fold (λ key (u : Table). greater_key key (greatest_key u)) start tables
 
 abbrev pub end_of : Bytes → List Table → Bytes
-end_of start tables = fold (λ key (u : Table). greater key (reach u.ranges)) start tables
+end_of start tables = fold (λ key (u : Table). greater_key key (reach u.ranges)) start tables
 
 pub lower_start : (start : Bytes) (tables : List Table) → Upto (lower_of start tables) start
 lower_start start [] = inl refl
-lower_start start (u ∷ more) = upto_then (lower_of (lesser start (least_key u)) more) (lesser start (least_key u)) start (lower_start (lesser start (least_key u)) more) (lesser_first start (least_key u))
+lower_start start (u ∷ more) = upto_then (lower_of (lesser_key start (least_key u)) more) (lesser_key start (least_key u)) start (lower_start (lesser_key start (least_key u)) more) (lesser_first start (least_key u))
 
 lower_each : (start : Bytes) (tables : List Table) → AllByRecursion (λ (u : Table). Upto (lower_of start tables) (least_key u)) tables
 lower_each start [] = tt
-lower_each start (u ∷ more) = let low = lesser start (least_key u) in
+lower_each start (u ∷ more) = let low = lesser_key start (least_key u) in
     (upto_then (lower_of low more) low (least_key u) (lower_start low more) (lesser_second start (least_key u)), lower_each low more)
 
 -- the least key of some tables is not above that of each
@@ -211,20 +211,20 @@ least_each (t ∷ more) = (lower_start (least_key t) more, lower_each (least_key
 hull_start : (last end : Bytes) (tables : List Table) (key : Bytes) → ends_below (upper_of last tables) (end_of end tables) key ≡ true → ends_below last end key ≡ true
 hull_start last end [] key e = e
 hull_start last end (u ∷ more) key e =
-    let parts = both_ends (greater last (greatest_key u)) (greater end (reach u.ranges)) key (hull_start (greater last (greatest_key u)) (greater end (reach u.ranges)) more key e) in
+    let parts = both_ends (greater_key last (greatest_key u)) (greater_key end (reach u.ranges)) key (hull_start (greater_key last (greatest_key u)) (greater_key end (reach u.ranges)) more key e) in
     of_ends last end key (before_greater last (greatest_key u) key parts.0).0 (from_greater end (reach u.ranges) key parts.1).0
 
 hull_each : (last end : Bytes) (tables : List Table) (key : Bytes) → ends_below (upper_of last tables) (end_of end tables) key ≡ true → AllByRecursion (λ (u : Table). LiesBelow u key) tables
 hull_each last end [] key e = tt
 hull_each last end (u ∷ more) key e =
-    let parts = both_ends (greater last (greatest_key u)) (greater end (reach u.ranges)) key (hull_start (greater last (greatest_key u)) (greater end (reach u.ranges)) more key e) in
-    (of_ends (greatest_key u) (reach u.ranges) key (before_greater last (greatest_key u) key parts.0).1 (from_greater end (reach u.ranges) key parts.1).1, hull_each (greater last (greatest_key u)) (greater end (reach u.ranges)) more key e)
+    let parts = both_ends (greater_key last (greatest_key u)) (greater_key end (reach u.ranges)) key (hull_start (greater_key last (greatest_key u)) (greater_key end (reach u.ranges)) more key e) in
+    (of_ends (greatest_key u) (reach u.ranges) key (before_greater last (greatest_key u) key parts.0).1 (from_greater end (reach u.ranges) key parts.1).1, hull_each (greater_key last (greatest_key u)) (greater_key end (reach u.ranges)) more key e)
 
 pub all_lie_below : (tables : List Table) (key : Bytes) → all_below tables key ≡ true → AllByRecursion (λ (u : Table). LiesBelow u key) tables
 all_lie_below [] key e = tt
 all_lie_below (t ∷ more) key e =
-    let parts = both_ends (greatest_key t) (greater [] (reach t.ranges)) key (hull_start (greatest_key t) (greater [] (reach t.ranges)) more key e) in
-    (of_ends (greatest_key t) (reach t.ranges) key parts.0 (from_greater [] (reach t.ranges) key parts.1).1, hull_each (greatest_key t) (greater [] (reach t.ranges)) more key e)
+    let parts = both_ends (greatest_key t) (greater_key [] (reach t.ranges)) key (hull_start (greatest_key t) (greater_key [] (reach t.ranges)) more key e) in
+    (of_ends (greatest_key t) (reach t.ranges) key parts.0 (from_greater [] (reach t.ranges) key parts.1).1, hull_each (greatest_key t) (greater_key [] (reach t.ranges)) more key e)
 
 -- ---- what the hull does not meet
 
@@ -245,7 +245,7 @@ none_under at (t ∷ more) key rise below upto =
 pub said_from : (tables : List Table) (key : Bytes) → Rise tables → IsSome (says tables key) → Upto (least_of tables) key
 said_from tables key rise some = none_over (least_of tables) tables key rise (least_each tables) some
 
-meets_said : (tables : List Table) (t : Table) (key : Bytes) → Rise tables → IsSource (as_source t) → IsSome (says tables key) → IsSome (told t key) → meets tables t ≡ true
+meets_said : (tables : List Table) (t : Table) (key : Bytes) → Rise tables → IsSource (as_source t) → IsSome (says tables key) → IsSome (told t key) → reaches_into tables t ≡ true
 meets_said tables t key rise is in_all in_t =
     ap (λ (b : Bool). not b && not (all_below tables (least_key t))) (not_below t (least_of tables) key is (said_from tables key rise in_all) in_t)
     ∙ ap (λ (b : Bool). not b) (elim (all_below tables (least_key t)) as (λ b. all_below tables (least_key t) ≡ b → b ≡ false) [
@@ -253,19 +253,19 @@ meets_said tables t key rise is in_all in_t =
       | false ↦ λ _. refl
     ] refl)
 
-outside_none : (tables others : List Table) (key : Bytes) → Rise tables → Rise others → IsSome (says tables key) → says (filter (λ (t : Table). not (meets tables t)) others) key ≡ None
+outside_none : (tables others : List Table) (key : Bytes) → Rise tables → Rise others → IsSome (says tables key) → says (filter (λ (t : Table). not (reaches_into tables t)) others) key ≡ None
 outside_none tables [] key rise_t rise in_all = refl
 outside_none tables (t ∷ more) key rise_t rise in_all = let rest = outside_none tables more key rise_t rise.1 in_all in
-    elim (meets tables t) as (λ b. meets tables t ≡ b → says (cond (not b) (t ∷ filter (λ (u : Table). not (meets tables u)) more) (filter (λ (u : Table). not (meets tables u)) more)) key ≡ None) [
+    elim (reaches_into tables t) as (λ b. reaches_into tables t ≡ b → says (cond (not b) (t ∷ filter (λ (u : Table). not (reaches_into tables u)) more) (filter (λ (u : Table). not (reaches_into tables u)) more)) key ≡ None) [
       | true ↦ λ _. rest
       | false ↦ λ e. elim (some_or_none (told t key)) [
-        | inl none ↦ ap (λ (o : Option (Option Bytes)). option_or o (says (filter (λ (u : Table). not (meets tables u)) more) key)) none ∙ rest
+        | inl none ↦ ap (λ (o : Option (Option Bytes)). option_or o (says (filter (λ (u : Table). not (reaches_into tables u)) more) key)) none ∙ rest
         | inr some ↦ absurd (false≢true (sym e ∙ meets_said tables t key rise_t rise.0 in_all some))
       ]
     ] refl
 
 -- where some tables say something of a key, those that they do not meet say nothing of it
-pub hull_apart : (tables others : List Table) (key : Bytes) → Rise tables → Rise others → EitherNone (says tables key) (says (filter (λ (t : Table). not (meets tables t)) others) key)
+pub hull_apart : (tables others : List Table) (key : Bytes) → Rise tables → Rise others → EitherNone (says tables key) (says (filter (λ (t : Table). not (reaches_into tables t)) others) key)
 hull_apart tables others key rise_t rise_o = elim (some_or_none (says tables key)) [
   | inl none ↦ inl none
   | inr some ↦ inr (outside_none tables others key rise_t rise_o some)

@@ -14,7 +14,7 @@ use Rattle.range_model.proofs.Sound.{said_both}
 use Rattle.state_model.specs.State.{State, Job, written_by}
 use Rattle.table_model.specs.Tables.{FilterBytes, Table, as_source}
 use Rattle.state_model.specs.View.{sources_of, oldest_first, state_map}
-use Rattle.state_model.specs.Merges.{Plan, plan_of, on_level, meets, is_over, first_over, choose, is_deepest, merged_of, planned}
+use Rattle.state_model.specs.Merges.{Plan, plan_of, on_level, reaches_into, is_over, first_over, choose, is_deepest, merged_of, planned}
 use Rattle.state_model.specs.Tends.{without, inserted, goes_before, outstanding, installed}
 use Rattle.state_model.specs.Taken.{extent_of, taken}
 use Rattle.extent_model.specs.Extents.{AreApart, IsOnDevice}
@@ -72,10 +72,10 @@ pub record Chosen (plan : Plan) (all : List Table) (key : Bytes) : Type 0 where
   pub level : ℕ
   pub tables : List Table
   pub output : plan.output ≡ level + 1
-  pub inputs : plan.inputs ≡ tables ++ filter (meets tables) (on_level (level + 1) all)
+  pub inputs : plan.inputs ≡ tables ++ filter (reaches_into tables) (on_level (level + 1) all)
   pub shape : Shape (on_level level all) tables key
 
-data IsPlan (all : List Table) (plan : Plan) : Type 0 where
+pub data IsPlan (all : List Table) (plan : Plan) : Type 0 where
   of_level_0 : plan ≡ plan_of all (on_level 0 all) 1 → IsPlan all plan
   of_level : (level : ℕ) → 1 ≤ level → plan ≡ plan_of all (take 1 (on_level level all)) (level + 1) → IsPlan all plan
 
@@ -86,7 +86,7 @@ first_over_is all (level ∷ more) plan some e = elim (is_over all level) as (λ
   | false ↦ λ e. first_over_is all more plan some.1 e
 ] e
 
-choose_is : (all : List Table) (plan : Plan) → choose all ≡ Some plan → IsPlan all plan
+pub choose_is : (all : List Table) (plan : Plan) → choose all ≡ Some plan → IsPlan all plan
 choose_is all plan e = elim (nat_le 4 (length (on_level 0 all))) as (λ b. cond b (Some (plan_of all (on_level 0 all) 1)) (first_over all (1 ∷ 2 ∷ 3 ∷ 4 ∷ 5 ∷ [])) ≡ Some plan → IsPlan all plan) [
   | true ↦ λ e. of_level_0 cc
   | false ↦ λ e. first_over_is all (1 ∷ 2 ∷ 3 ∷ 4 ∷ 5 ∷ []) plan (omega arith, (omega arith, (omega arith, (omega arith, (omega arith, tt))))) e
@@ -114,7 +114,7 @@ chosen all few plan key within e rise order =
             level = 0;
             tables = tables;
             output = ap (λ (p : Plan). p.output) is;
-            inputs = ap (λ (p : Plan). p.inputs) is ∙ ap (λ (l : List Table). tables ++ filter (meets tables) l) (same.1 1 (omega arith));
+            inputs = ap (λ (p : Plan). p.inputs) is ∙ ap (λ (l : List Table). tables ++ filter (reaches_into tables) l) (same.1 1 (omega arith));
             shape = record {
               front = take few (on_level 0 all);
               back = [];
@@ -130,8 +130,8 @@ chosen all few plan key within e rise order =
             tables = tables;
             output = ap (λ (p : Plan). p.output) is;
             inputs = ap (λ (p : Plan). p.inputs) is
-                ∙ ap (λ (l : List Table). l ++ filter (meets l) (on_level (level + 1) (drop few all))) there
-                ∙ ap (λ (l : List Table). tables ++ filter (meets tables) l) (same.1 (level + 1) (omega arith));
+                ∙ ap (λ (l : List Table). l ++ filter (reaches_into l) (on_level (level + 1) (drop few all))) there
+                ∙ ap (λ (l : List Table). tables ++ filter (reaches_into tables) l) (same.1 (level + 1) (omega arith));
             shape = record {
               front = [];
               back = drop 1 (on_level level all);
@@ -291,7 +291,7 @@ install_says filter_bytes s job key sound is done =
     let i = c.tables in
     let p = c.shape.front in
     let k = c.shape.back in
-    let m = meets i in
+    let m = reaches_into i in
     let b = above a all in
     let x0 = on_level a all in
     let x = on_level (a + 1) all in

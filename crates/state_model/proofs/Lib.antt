@@ -8,6 +8,7 @@ pub mod Wholes
 pub mod Plays
 pub mod Kept
 pub mod Lines
+pub mod Looks
 pub mod Merged
 pub mod Levels
 pub mod Parts
@@ -53,3 +54,4 @@ pub mod Estimates
 pub mod Slices
 pub mod Alone
 pub mod WithoutRanges
+pub mod NoRanges

@@ -114,12 +114,12 @@ has_pages filter_bytes settings s some = omega (arith, entries_in_pages s.entrie
 -- ---- tables that are placed
 
 -- what was placed before a table, where it was
-record Front (t : Table) (done : Result (List Table) NoRoom) (made : List Table) : Type 0 where
-  rest : List Table
-  first : made ≡ t ∷ rest
-  later : done ≡ Ok rest
+pub record Front (t : Table) (done : Result (List Table) NoRoom) (made : List Table) : Type 0 where
+  pub rest : List Table
+  pub first : made ≡ t ∷ rest
+  pub later : done ≡ Ok rest
 
-front_of : (t : Table) (done : Result (List Table) NoRoom) (made : List Table) → before t done ≡ Ok made → Front t done made
+pub front_of : (t : Table) (done : Result (List Table) NoRoom) (made : List Table) → before t done ≡ Ok made → Front t done made
 front_of t (Ok tables) made e = record { rest = tables; first = cc; later = refl }
 front_of t (Err refusal) made e = absurd cc
 

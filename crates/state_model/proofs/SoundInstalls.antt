@@ -12,7 +12,7 @@ use Rattle.state_model.specs.State.{State, Job}
 use Rattle.table_model.specs.Tables.{FilterBytes, Table, as_source}
 use Rattle.state_model.specs.View.{state_map}
 use Rattle.state_model.specs.Taken.{taken}
-use Rattle.state_model.specs.Merges.{Plan, plan_of, on_level, meets, is_over, first_over, choose, cut_for, is_deepest, lasting_of, merged_of, planned}
+use Rattle.state_model.specs.Merges.{Plan, plan_of, on_level, reaches_into, is_over, first_over, choose, cut_for, is_deepest, lasting_of, merged_of, planned}
 use Rattle.state_model.specs.Tends.{with_job, outstanding, installed, inserted, without, Tended, Tend, idle, works, installs, last_epoch_reached, no_room, no_memory, read_failed, damage_met, write_failed}
 use Rattle.extent_model.specs.Extents.{AreApart}
 use Rattle.state_model.specs.Sound.{IsSound, IsSoundTable, StandsBefore, IsJob, plan_of_job}
@@ -94,7 +94,7 @@ inputs_sound filter_bytes s job sound is =
     let c = chosen s.tables is.flushes (plan_of_job job) [] is.few is.chosen rise order in
     let sound_0 = all_parts IsSoundTable c.shape.front (c.tables ++ c.shape.back) (subst (AllByRecursion IsSoundTable) c.shape.parts (all_kept IsSoundTable (λ (t : Table). t.level == c.level) s.tables sound.tables)) in
     let sound_i = (all_parts IsSoundTable c.tables c.shape.back sound_0.1).0 in
-    let m = meets c.tables in
+    let m = reaches_into c.tables in
     let x = on_level (c.level + 1) s.tables in
     let sound_j = all_kept IsSoundTable m x (all_kept IsSoundTable (λ (t : Table). t.level == (c.level + 1)) s.tables sound.tables) in
     subst (AllByRecursion IsSoundTable) (sym c.inputs) (all_join IsSoundTable c.tables (filter m x) sound_i sound_j)
@@ -127,7 +127,7 @@ install_order filter_bytes s job sound is done new =
     let i = c.tables in
     let p = c.shape.front in
     let k = c.shape.back in
-    let m = meets i in
+    let m = reaches_into i in
     let b = above a all in
     let x0 = on_level a all in
     let x = on_level (a + 1) all in

@@ -19,7 +19,7 @@ use Rattle.table_model.specs.Tables.{Table}
 use Rattle.state_model.specs.State.{State}
 use Rattle.state_model.specs.Logs.{filled_by, gap_after}
 use Rattle.state_model.specs.View.{changes_of, in_memory, memory, oldest_first, sources_of, state_map, view}
-use Rattle.state_model.specs.Merges.{Plan, cut_for, greater, greatest_key, greatest_of, has_value, is_deepest, lasting, lasting_of, least_key, least_of, meets, merged_of, outputs_for, planned, reach_of}
+use Rattle.state_model.specs.Merges.{Plan, cut_for, greater_key, greatest_key, greatest_of, has_value, is_deepest, lasting, lasting_of, least_key, least_of, reaches_into, merged_of, outputs_for, planned, reach_of}
 use Rattle.state_model.specs.Changes.{compacted_outputs, live_entries}
 use Rattle.state_model.specs.WithoutRanges.{HasNoRange, HasOnlyEntries, first_found, table_entries}
 use Rattle.state_model.proofs.Sayings.{or_none}
@@ -85,7 +85,7 @@ map_alone s entries is = ap map_of_changes (changes_alone s entries is) ∙ sets
 
 no_reach : (tables : List Table) → AllByRecursion HasNoRange tables → reach_of tables ≡ []
 no_reach [] none = refl
-no_reach (t ∷ more) none = ap (λ (ranges : List DeletedRange). fold (λ key (u : Table). greater key (reach u.ranges)) (greater [] (reach ranges)) more) none.0 ∙ no_reach more none.1
+no_reach (t ∷ more) none = ap (λ (ranges : List DeletedRange). fold (λ key (u : Table). greater_key key (reach u.ranges)) (greater_key [] (reach ranges)) more) none.0 ∙ no_reach more none.1
 
 by_key : (below : Bool) (key end : Bytes) → end ≡ [] → (below && not (is_before key end)) ≡ below
 by_key below key end none = ap (λ (k : Bytes). below && not (is_before key k)) none ∙ ap (λ (b : Bool). below && not b) (before_none key) ∙ and_true below
@@ -95,7 +95,7 @@ by_key below key end none = ap (λ (k : Bytes). below && not (is_before key k)) 
     and_true false = refl
 
 pub meets_alone : (tables : List Table) (t : Table) → AllByRecursion HasNoRange tables → HasNoRange t
-    → meets tables t ≡ (not (is_before (greatest_key t) (least_of tables)) && not (is_before (greatest_of tables) (least_key t)))
+    → reaches_into tables t ≡ (not (is_before (greatest_key t) (least_of tables)) && not (is_before (greatest_of tables) (least_key t)))
 meets_alone tables t none own = ap₂ (λ (x y : Bool). not x && not y)
     (by_key (is_before (greatest_key t) (least_of tables)) (least_of tables) (reach t.ranges) (ap reach own))
     (by_key (is_before (greatest_of tables) (least_key t)) (least_key t) (reach_of tables) (no_reach tables none))

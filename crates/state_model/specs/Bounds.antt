@@ -1,5 +1,6 @@
 -- How many blocks a get and a closed seek may read, and what `estimate` and `explain` tell.
 use Rattle.std.specs.Prelude.{ℕ, suc, ◌+◌, Bool, true, not, ◌&&◌, if◌then◌else◌, List, [], ◌∷◌, filter, count_by, sum_by, Option, Some, None}
+use Rattle.std.specs.Option.{option_map_or}
 use Rattle.filter_model.specs.Leaves.{Leaf, leaves_of}
 use Rattle.filter_model.specs.Answers.{point, ranged, tally}
 use Rattle.map_model.specs.SortedMap.{Bytes, Map}
@@ -54,9 +55,19 @@ is_passed (Some answer) key = is_before key answer.0
 abbrev pub stepped : Map → Bytes → Bytes → Table → ℕ
 stepped map lo hi t = count_by (λ (e : Entry). is_between lo (Some hi) e.key && is_passed (seek map lo (Some hi)) e.key) t.entries
 
--- the blocks that a closed seek may read: one of each table that admits the range, and one for each entry stepped over
+-- the key up to which a closed seek looks: that of its answer, or hi where there is none
+abbrev pub looks_to : Map → Bytes → Bytes → Bytes
+looks_to map lo hi = option_map_or (λ (answer : Bytes × Bytes). answer.0) (seek map lo (Some hi)) hi
+
+-- the blocks that a closed seek may read: one of each table that admits lo to where it looks, and one for each entry stepped over
 abbrev pub seek_bound : State → Bytes → Bytes → ℕ
-seek_bound s lo hi = if is_before hi lo then 0 else sum_by (λ (t : Table). suc (stepped (state_map s) lo hi t)) (filter (admits_range lo hi) s.tables)
+seek_bound s lo hi =
+    if is_before hi lo then 0
+    else sum_by (λ (t : Table). suc (stepped (state_map s) lo hi t)) (filter (admits_range lo (looks_to (state_map s) lo hi)) s.tables)
+
+-- how many tables admit the bounds: those that a range or a count may read
+abbrev pub tables_between : State → Bytes → Bytes → ℕ
+tables_between s lo hi = if is_before hi lo then 0 else count_by (admits_range lo hi) s.tables
 
 -- about how many keys lie from lo to hi: the memory entries there, and for each table what its filter counts
 abbrev pub estimate : State → Bytes → Bytes → ℕ

@@ -32,7 +32,7 @@ flushed_with filter_bytes s source (entry ∷ more) =
 abbrev pub flushed : FilterBytes → State → Result State Reply
 flushed filter_bytes s = flushed_with filter_bytes s (in_memory s) (memory s)
 
--- ---- put and del
+-- ---- changes that are written
 
 abbrev pub logged : State → Change → State
 logged s change = record s { log = s.log ++ (change ∷ []) }

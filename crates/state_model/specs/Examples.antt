@@ -53,6 +53,10 @@ three_tables =
     put_one 1 ∷ put_one 2 ∷ put_one 3 ∷ put_one 4 ∷ Flush ∷ put_one 5 ∷ put_one 6 ∷ put_one 7 ∷ put_one 8 ∷ Flush
     ∷ put_one 9 ∷ put_one 10 ∷ Del (key 1) ∷ Del (key 2) ∷ Flush ∷ []
 
+-- two tables of one key each, and a lesser key in the memory
+abbrev pub five_and_six_under_one : List Request
+five_and_six_under_one = put_one 5 ∷ Flush ∷ put_one 6 ∷ Flush ∷ put_one 1 ∷ []
+
 -- aa1 and ab1 in one table
 abbrev pub aa1_and_ab1 : List Request
 aa1_and_ab1 = Put (codes "aa1") (1 ∷ []) ∷ Put (codes "ab1") (2 ∷ []) ∷ Flush ∷ []
@@ -83,29 +87,29 @@ abbrev pub reaching : Table → ℕ → Table
 reaching t end = record t { ranges = range_of (first_key t.entries) (key end) ∷ [] }
 
 -- an entry of one byte that is set, and a range between keys of one byte that is cleared
-abbrev pub sets : ℕ → ℕ → Change
-sets n value = Sets (put_entry (key n) (value ∷ []))
+abbrev pub set_key : ℕ → ℕ → Change
+set_key n value = Sets (put_entry (key n) (value ∷ []))
 
-abbrev pub clears : ℕ → ℕ → Change
-clears lo hi = Clears (range_of (key lo) (key hi))
+abbrev pub cleared_keys : ℕ → ℕ → Change
+cleared_keys lo hi = Clears (range_of (key lo) (key hi))
 
 -- the state after changes that are written, after a flush and after a compaction; the same, where they are refused
-abbrev pub behind : State → List Change → State
-behind s changes = fold (λ (t : State) (change : Change). (done_or_refused t (written one_byte t change)).1) s changes
+abbrev pub after_changes : State → List Change → State
+after_changes s changes = fold (λ (t : State) (change : Change). (done_or_refused t (written one_byte t change)).1) s changes
 
-abbrev pub behind_flush : State → State
-behind_flush s = (done_or_refused s (flushed one_byte s)).1
+abbrev pub after_flush : State → State
+after_flush s = (done_or_refused s (flushed one_byte s)).1
 
-abbrev pub behind_compaction : State → State
-behind_compaction s = (done_or_refused s (compacted one_byte s)).1
+abbrev pub after_compaction : State → State
+after_compaction s = (done_or_refused s (compacted one_byte s)).1
 
 -- 61, 62 and 63 in a table, and in memory a range over the first two
 abbrev pub two_cleared : State
-two_cleared = behind (behind_flush (behind small_store (sets 0x61 1 ∷ sets 0x62 2 ∷ sets 0x63 3 ∷ []))) (clears 0x61 0x63 ∷ [])
+two_cleared = after_changes (after_flush (after_changes small_store (set_key 0x61 1 ∷ set_key 0x62 2 ∷ set_key 0x63 3 ∷ []))) (cleared_keys 0x61 0x63 ∷ [])
 
 -- a value, a range over it, a put within the range and its tombstone, each in a table
 abbrev pub put_and_cleared : State
-put_and_cleared = fold (λ (s : State) (change : Change). behind_flush (behind s (change ∷ []))) small_store (sets 0x62 1 ∷ clears 0x61 0x63 ∷ sets 0x62 2 ∷ Sets (del_entry (key 0x62)) ∷ [])
+put_and_cleared = fold (λ (s : State) (change : Change). after_flush (after_changes s (change ∷ []))) small_store (set_key 0x62 1 ∷ cleared_keys 0x61 0x63 ∷ set_key 0x62 2 ∷ Sets (del_entry (key 0x62)) ∷ [])
 
 -- a store of 4,096 pages with some tables
 abbrev pub store_with : List Table → State

@@ -8,7 +8,7 @@ use Rattle.entry_model.specs.Entries.{put_entry, del_entry}
 use Rattle.state_model.specs.State.{State, Job, without_job}
 use Rattle.range_model.specs.Sources.{Sets}
 use Rattle.state_model.specs.View.{memory, changes_of, state_map}
-use Rattle.state_model.specs.Bounds.{get_bound, seek_bound}
+use Rattle.state_model.specs.Bounds.{get_bound, seek_bound, tables_between}
 use Rattle.state_model.specs.Changes.{written, flushed, compacted_outputs}
 use Rattle.state_model.specs.Merges.{NoRoom, placed}
 use Rattle.state_model.specs.Taken.{taken}
@@ -115,10 +115,10 @@ pub record FaultsHaveCauses : Type 0 where
       (filter_bytes : FilterBytes) (s after : State) (reply : Reply) (lo hi : Bytes) → seek_bound s lo hi ≡ 0 → Step OfDevice filter_bytes s (Seek lo (Some hi)) reply after
       → IsAnswered filter_bytes s (Seek lo (Some hi)) reply after
   pub range_of_no_block :
-      (filter_bytes : FilterBytes) (s after : State) (reply : Reply) (lo hi : Bytes) (n : ℕ) → seek_bound s lo hi ≡ 0 → Step OfDevice filter_bytes s (Range lo hi n) reply after
+      (filter_bytes : FilterBytes) (s after : State) (reply : Reply) (lo hi : Bytes) (n : ℕ) → tables_between s lo hi ≡ 0 → Step OfDevice filter_bytes s (Range lo hi n) reply after
       → IsAnswered filter_bytes s (Range lo hi n) reply after
   pub count_of_no_block :
-      (filter_bytes : FilterBytes) (s after : State) (reply : Reply) (lo hi : Bytes) → seek_bound s lo hi ≡ 0 → Step OfDevice filter_bytes s (Count lo hi) reply after
+      (filter_bytes : FilterBytes) (s after : State) (reply : Reply) (lo hi : Bytes) → tables_between s lo hi ≡ 0 → Step OfDevice filter_bytes s (Count lo hi) reply after
       → IsAnswered filter_bytes s (Count lo hi) reply after
   pub range_of_no_pairs :
       (filter_bytes : FilterBytes) (s after : State) (reply : Reply) (lo hi : Bytes) → Step OfDevice filter_bytes s (Range lo hi 0) reply after

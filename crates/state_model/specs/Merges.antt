@@ -6,6 +6,7 @@ use Rattle.key_base.specs.Limits.{merge_data_pages}
 use Rattle.map_model.specs.SortedMap.{Bytes}
 use Rattle.entry_model.specs.Entries.{Entry}
 use Rattle.range_model.specs.Sources.{Source, alone, source_of}
+pub use Rattle.range_model.specs.Ranges.{greater_key, lesser_key}
 use Rattle.range_model.specs.Outputs.{with_ranges}
 use Rattle.range_model.specs.Reach.{reach, lies_below}
 use Rattle.block_model.specs.Pages.{data_pages, first_key, last_key}
@@ -26,24 +27,18 @@ greatest_key t = last_key t.entries
 abbrev pub on_level : ℕ → List Table → List Table
 on_level level tables = filter (λ (t : Table). t.level == level) tables
 
-abbrev pub lesser : Bytes → Bytes → Bytes
-lesser x y = if is_before y x then y else x
-
-abbrev pub greater : Bytes → Bytes → Bytes
-greater x y = if is_before x y then y else x
-
 -- the least and the greatest of all their keys
 abbrev pub least_of : List Table → Bytes
 least_of [] = []
-least_of (t ∷ more) = fold (λ key (u : Table). lesser key (least_key u)) (least_key t) more
+least_of (t ∷ more) = fold (λ key (u : Table). lesser_key key (least_key u)) (least_key t) more
 
 abbrev pub greatest_of : List Table → Bytes
 greatest_of [] = []
-greatest_of (t ∷ more) = fold (λ key (u : Table). greater key (greatest_key u)) (greatest_key t) more
+greatest_of (t ∷ more) = fold (λ key (u : Table). greater_key key (greatest_key u)) (greatest_key t) more
 
 -- the greatest end of their ranges, no bytes where there is none
 abbrev pub reach_of : List Table → Bytes
-reach_of tables = fold (λ key (u : Table). greater key (reach u.ranges)) [] tables
+reach_of tables = fold (λ key (u : Table). greater_key key (reach u.ranges)) [] tables
 
 -- all that the table speaks of comes before the key; its last range may end there
 abbrev pub LiesBelow : Table → Bytes → Type 0
@@ -54,8 +49,8 @@ abbrev pub all_below : List Table → Bytes → Bool
 all_below tables key = is_before (greatest_of tables) key && not (is_before key (reach_of tables))
 
 -- the table reaches into what some tables speak of: it does not lie below the least of their keys, nor they below its least
-abbrev pub meets : List Table → Table → Bool
-meets tables t = not (lies_below (as_source t) (least_of tables)) && not (all_below tables (least_key t))
+abbrev pub reaches_into : List Table → Table → Bool
+reaches_into tables t = not (lies_below (as_source t) (least_of tables)) && not (all_below tables (least_key t))
 
 -- tables that are merged, the newest first, and the level of what they become
 pub record Plan : Type 0 where
@@ -64,7 +59,7 @@ pub record Plan : Type 0 where
 
 -- some of all tables, with those of the level below that they meet
 abbrev pub plan_of : List Table → List Table → ℕ → Plan
-plan_of all tables output = record { inputs = tables ++ filter (meets tables) (on_level output all); output = output }
+plan_of all tables output = record { inputs = tables ++ filter (reaches_into tables) (on_level output all); output = output }
 
 -- the pages that a level may have
 abbrev pub level_limit : ℕ → ℕ

@@ -1,5 +1,5 @@
 -- Laws of reads: which tables are searched, how many blocks are read, and what an estimate counts.
-use Rattle.std.specs.Prelude.{◌≡◌, ◌≤◌, ◌&&◌, ℕ, true, false, [], count_by, Option, Some, None, Ok}
+use Rattle.std.specs.Prelude.{◌≡◌, ◌≤◌, ◌&&◌, ℕ, suc, true, false, [], filter, count_by, sum_by, Option, Some, None, Ok}
 use Rattle.std.specs.Option.{is_none}
 use Rattle.std.specs.List.{AllByRecursion}
 use Rattle.byte_fields.specs.Spelling.{IsBytes}
@@ -11,7 +11,7 @@ use Rattle.state_model.specs.State.{State}
 use Rattle.table_model.specs.Tables.{FilterBytes, Table}
 use Rattle.state_model.specs.View.{memory, state_map}
 use Rattle.state_model.specs.Changes.{compacted}
-use Rattle.state_model.specs.Bounds.{admits_range, is_searched, get_bound, seek_bound, is_passed, stepped, estimate, admitted}
+use Rattle.state_model.specs.Bounds.{admits_range, is_searched, get_bound, seek_bound, tables_between, is_passed, stepped, estimate, admitted}
 use Rattle.state_model.specs.Sound.{IsSoundTable, IsSound}
 
 -- how many of a table's entries lie from lo to hi and have a key that the map has not
@@ -39,12 +39,20 @@ pub record GetsAreBounded : Type 0 where
       (filter_bytes : FilterBytes) (s after : State) (key : Bytes) → IsSound filter_bytes s
       → compacted filter_bytes s ≡ Ok after → get_bound after key ≤ 1
 
--- The bounds allow no block without tables, nor for a get of what the memory has, nor for a seek between crossed bounds.
+-- The bounds allow no block without tables, nor for a get of what the memory has, nor between crossed bounds.
 pub record NothingIsRead : Type 0 where
   pub get_without_tables : (s : State) (key : Bytes) → s.tables ≡ [] → get_bound s key ≡ 0
   pub get_from_memory : (s : State) (key : Bytes) (value : Option Bytes) → lookup (memory s) key ≡ Some value → get_bound s key ≡ 0
   pub seek_without_tables : (s : State) (lo hi : Bytes) → s.tables ≡ [] → seek_bound s lo hi ≡ 0
   pub crossed_seek : (s : State) (lo hi : Bytes) → is_before hi lo ≡ true → seek_bound s lo hi ≡ 0
+  pub none_between_without_tables : (s : State) (lo hi : Bytes) → s.tables ≡ [] → tables_between s lo hi ≡ 0
+  pub none_between_crossed : (s : State) (lo hi : Bytes) → is_before hi lo ≡ true → tables_between s lo hi ≡ 0
+
+-- A closed seek may read no more than one that looked up to its upper bound whatever it finds: of each table that admits all of the
+-- bounds one block, and one more for each entry stepped over.
+abbrev pub SeeksLookNoFarther : Type 0
+SeeksLookNoFarther =
+    (s : State) (lo hi : Bytes) → seek_bound s lo hi ≤ sum_by (λ (t : Table). suc (stepped (state_map s) lo hi t)) (filter (admits_range lo hi) s.tables)
 
 -- A key that a closed seek steps over is not in the map: it is a deleted one. So of a table it steps over no more entries
 -- than lie between the bounds and have keys that the map has not.

@@ -13,7 +13,7 @@ use Rattle.state_model.specs.Changes.{written, flushed, compacted, compacted_out
 use Rattle.state_model.specs.Merges.{placed}
 use Rattle.state_model.specs.Taken.{taken}
 use Rattle.line_model.specs.Limits.{limit_of}
-use Rattle.state_model.specs.Bounds.{get_bound, seek_bound, estimate, admitted, blocks_read}
+use Rattle.state_model.specs.Bounds.{get_bound, seek_bound, tables_between, estimate, admitted, blocks_read}
 use Rattle.state_model.specs.Sound.{IsLeft}
 use Rattle.state_model.specs.Causes.{Why, NoMemory, ReadFailed, WriteFailed, DamageMet}
 use Rattle.line_model.specs.Requests.{Request, Put, Del, Get, Seek, Range, Count, Estimate, Explain, Flush, Compact, Quit, Bad}
@@ -85,14 +85,14 @@ Writes filter_bytes s Flush = (memory s ≢ []) × IsOk (flushed filter_bytes s)
 Writes filter_bytes s Compact = IsBegun s × IsOk (placed filter_bytes s.settings s.pages (taken (without_job s)) max_level (take 1 (compacted_outputs s)))
 Writes filter_bytes s request = ⊥
 
--- A get, a closed seek and a count read where their bounds allow a block, and so does a range that asks for pairs; an open
--- seek where there are tables, and so does a compaction that is begun.
+-- A get and a closed seek read where their bounds allow a block; a count where a table admits the bounds, and so does a range
+-- that asks for pairs; an open seek where there are tables, and so does a compaction that is begun.
 abbrev pub Reads : State → Request → Type 0
 Reads s (Get key) = 0 < get_bound s key
 Reads s (Seek lo None) = s.tables ≢ []
 Reads s (Seek lo (Some hi)) = 0 < seek_bound s lo hi
-Reads s (Range lo hi n) = (0 < n) × (0 < seek_bound s lo hi)
-Reads s (Count lo hi) = 0 < seek_bound s lo hi
+Reads s (Range lo hi n) = (0 < n) × (0 < tables_between s lo hi)
+Reads s (Count lo hi) = 0 < tables_between s lo hi
 Reads s Compact = IsBegun s × (s.tables ≢ [])
 Reads s request = ⊥
 

@@ -19,7 +19,7 @@ ghost use Rattle.state_model.specs.Bounds.{admitted, get_bound, seek_bound};
 ghost use Rattle.state_model.specs.Play.{played, played_in_slices};
 ghost use Rattle.line_model.specs.Replies.{Done, Value, Missing, At, Pairs, End, Counted, About, Explained, Bye, Full, LongKey, ManyTables, LastEpoch, Memory, Device, Damaged, at_words, sum_word, text_of};
 ghost use Rattle.line_model.specs.Requests.{Put, Del, Get, Seek, Range, Count, Estimate, Explain, Flush, Compact, Quit, Bad, request_of};
-ghost use Rattle.state_model.specs.Examples.{all_read, all_written, base, cramped, grown_to, hashed, set_to, small_store, one_byte, key, put_one, four_tables, three_tables, aa1_and_ab1, tombstone_over_a_value, two_values, table_at, store_with, pages_of_plan, place_and_size};
+ghost use Rattle.state_model.specs.Examples.{all_read, all_written, base, cramped, five_and_six_under_one, grown_to, hashed, set_to, small_store, one_byte, key, put_one, four_tables, three_tables, aa1_and_ab1, tombstone_over_a_value, two_values, table_at, store_with, pages_of_plan, place_and_size};
 
 /// Tables that are flushed, merged and compacted.
 #[tactic(auto, unfolding(block_model::specs::Pages::pages_for, block_model::specs::Bodies::entries_bytes, block_model::specs::Pages::block_length, block_model::specs::Pages::block_pages, block_model::specs::Pages::blocks_of, block_model::specs::Pages::data_pages, block_model::specs::Pages::index_length, entry_model::specs::Entries::filled, entry_model::specs::Entries::gap, key_base::specs::Limits::last_epoch))]
@@ -64,7 +64,8 @@ pub fn merges_in_slices()
 #[tactic(auto, unfolding(block_model::specs::Pages::pages_for, block_model::specs::Bodies::entries_bytes, block_model::specs::Pages::block_length, block_model::specs::Pages::block_pages, block_model::specs::Pages::blocks_of, block_model::specs::Pages::data_pages, block_model::specs::Pages::index_length, entry_model::specs::Entries::filled, entry_model::specs::Entries::gap, key_base::specs::Limits::last_epoch))]
 pub fn reads_between_keys()
     ensures a_seek_steps_over_deleted_keys { (played one_byte small_store (three_tables ++ Seek (key 1) (Some (key 10)) ∷ [])).0 ≡ Done ∷ Done ∷ Done ∷ Done ∷ Done ∷ Done ∷ Done ∷ Done ∷ Done ∷ Done ∷ Done ∷ Done ∷ Done ∷ Done ∷ Done ∷ At (key 3) (1 ∷ []) ∷ [] }
-    ensures its_bound_counts_them { seek_bound (played one_byte small_store three_tables).1 (key 1) (key 10) ≡ 7 }
+    ensures its_bound_counts_them { seek_bound (played one_byte small_store three_tables).1 (key 1) (key 10) ≡ 6 }
+    ensures it_counts_them_without_an_answer { seek_bound (played one_byte small_store three_tables).1 (key 1) (key 2) ≡ 6 }
     ensures it_counts_them_where_nothing_is_left { seek_bound (played one_byte small_store (put_one 1 ∷ put_one 2 ∷ Flush ∷ Del (key 1) ∷ Del (key 2) ∷ Flush ∷ [])).1 (key 1) (key 2) ≡ 6 }
     ensures numbers_of_a_table { (played one_byte small_store (aa1_and_ab1 ++ Count (codes "aa5") (codes "ab0") ∷ Estimate (codes "aa5") (codes "ab0") ∷ Explain (codes "aa9") ∷ Explain (codes "aa0") ∷ Explain (codes "ac0") ∷ Get (codes "aa9") ∷ [])).0 ≡ Done ∷ Done ∷ Done ∷ Counted 0 ∷ About 2 ∷ Explained 1 1 1 ∷ Explained 1 1 0 ∷ Explained 1 0 0 ∷ Missing ∷ [] }
     ensures both_ends_are_counted { (played one_byte small_store (aa1_and_ab1 ++ Count (codes "aa1") (codes "ab1") ∷ Count (codes "ab1") (codes "aa1") ∷ Estimate (codes "ab1") (codes "aa1") ∷ [])).0 ≡ Done ∷ Done ∷ Done ∷ Counted 2 ∷ Counted 0 ∷ About 0 ∷ [] }
@@ -100,6 +101,7 @@ pub fn where_filters_admit()
     ensures not_a_range_that_it_denies { Reads (played one_byte small_store aa1_and_ab1).1 (Range (codes "ac0") (codes "ad0") 1) → ⊥ }
     ensures a_count_that_it_admits { Reads (played one_byte small_store aa1_and_ab1).1 (Count (codes "aa5") (codes "ab0")) }
     ensures not_a_count_that_it_denies { Reads (played one_byte small_store aa1_and_ab1).1 (Count (codes "ac0") (codes "ad0")) → ⊥ }
+    ensures a_count_of_more_than_the_memory_answers { Reads (played one_byte small_store five_and_six_under_one).1 (Count (key 1) (key 10)) }
     ensures a_compaction_of_a_table { Reads (played one_byte small_store aa1_and_ab1).1 Compact }
 {}
 

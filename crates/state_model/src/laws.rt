@@ -3,7 +3,7 @@ ghost use Rattle.state_model.specs.CauseLaws.{CausesHaveReplies, RefusalsHaveCau
 ghost use Rattle.state_model.specs.FaultLaws.{FaultsAreMet, FaultsHaveCauses, NoJobIsLeft, DeviceIsKept, StepsAreAnswers, SlicesReadBlocks, SlicesWrite};
 ghost use Rattle.state_model.specs.Laws.{ViewLaws, ChangeLaws, InstallLaws, MergeLaws, ChoiceLaws, OutputLaws};
 ghost use Rattle.state_model.specs.PlayLaws.{AnswersGoOn, OthersHaveNoSlice, PlayLaws, SlicesAreAllowed, ScriptsGoOn, ScriptsThatEnd, ScriptsToLast};
-ghost use Rattle.state_model.specs.ReadLaws.{HeldIsSearched, GetsAreBounded, NothingIsRead, SteppedAreDeleted, EstimateIsEnough};
+ghost use Rattle.state_model.specs.ReadLaws.{HeldIsSearched, GetsAreBounded, NothingIsRead, SeeksLookNoFarther, SteppedAreDeleted, EstimateIsEnough};
 ghost use Rattle.state_model.specs.Refusals.{RefusalLaws};
 ghost use Rattle.state_model.specs.WithoutRanges.{WithoutRanges};
 ghost use Rattle.state_model.specs.SoundLaws.{PlacedAreLaid, SettingsKeepSound, PagesKeepSound, ResetsHoldTheSame, NewIsSound, FlushKeepsSound, WriteKeepsSound, CompactionKeepsSound, WorkKeepsSound, DropKeepsSound, SliceKeepsSound, SliceKeepsMap, NeverTends, NeverSteps, PlayedIsSound, LinesAreOfBytes, SpeakingAsks, LineKeepsSound, StepsAtFirst, WorkedLowersSteps, LinesRaiseNoSteps, JobEnds, ScriptsKeepSound, LimitsAreKept, KeysAreAList};
@@ -61,6 +61,11 @@ pub fn gets_are_bounded()
 /// Law: what the bound of a closed seek counts beside the one a table are entries of deleted keys between its bounds.
 pub fn stepped_are_deleted()
     ensures { SteppedAreDeleted }
+{}
+
+/// Law: a closed seek looks no farther than its answer, so its bound is at most that of the tables that admit all its bounds.
+pub fn seeks_look_no_farther()
+    ensures { SeeksLookNoFarther }
 {}
 
 /// Law: an estimate between two byte strings is not below the true count.
@@ -257,7 +262,7 @@ pub fn slices_have_reasons()
 {}
 
 /// Law: where the log sets entries and no table has a range, memory and merges are the newest entries, outputs are entries
-/// alone, and tables meet by their keys.
+/// alone, and tables meet by their keys. No table that is made of them has a range.
 pub fn without_ranges()
     ensures { WithoutRanges }
 {}

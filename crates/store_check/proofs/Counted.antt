@@ -14,8 +14,8 @@ use Rattle.entry_model.specs.Entries.{Entry, keys_of}
 use Rattle.byteorder.specs.Endian.{little_number}
 use Rattle.key_base.specs.Limits.{is_no_key_length}
 use Rattle.block_model.specs.Order.{is_from}
-use Rattle.block_model.specs.Index.{Index, IndexRow, index_magic}
-use Rattle.block_model.specs.IndexReading.{head_width_in, index_fault, index_head_fault, index_in, least_in, least_length_in, pages_fault, row_width_in, rows_count_in, rows_fault, rows_in}
+use Rattle.block_model.specs.Index.{Index, IndexRow}
+use Rattle.block_model.specs.IndexReading.{all_ranges_fault, has_ranges_in, head_width_in, index_fault, index_head_fault, index_in, is_magic, least_in, least_length_in, pages_fault, row_width_in, rows_count_in, rows_end_in, rows_fault, rows_in, rows_part}
 use Rattle.block_model.specs.Laws.{joined}
 use Rattle.block_model.specs.Places.{byte_of_page, index_page}
 use Rattle.block_model.proofs.LastBlocks.{positive}
@@ -37,16 +37,17 @@ rows_many (suc n) bytes = ap suc (rows_many n (drop (row_width_in bytes) bytes))
 head_none : (pages : ℕ) (bytes : Bytes) → index_fault pages bytes ≡ None → index_head_fault bytes ≡ None
 unfolding index_fault
 head_none pages bytes none =
-    (neither (index_head_fault bytes) (option_or (rows_fault (rows_count_in bytes) (head_width_in bytes) (is_from (least_in bytes)) (drop (head_width_in bytes) bytes)) (pages_fault pages bytes)) none).0
+    (neither (index_head_fault bytes) (option_or (rows_fault (rows_count_in bytes) (head_width_in bytes) (is_from (least_in bytes)) (rows_part bytes))
+    (option_or (all_ranges_fault (has_ranges_in bytes) (rows_end_in bytes) (drop (rows_end_in bytes) bytes)) (pages_fault pages bytes))) none).0
 
 count_kept : (bytes : Bytes) → index_head_fault bytes ≡ None → (rows_count_in bytes == 0) ≡ false
 unfolding index_head_fault
 count_kept bytes none =
     let least = refuse (is_no_key_length (least_length_in bytes)) 8 4 None in
     let count = refuse (rows_count_in bytes == 0) 4 3 least in
-    let magic = refuse (not (little_number 4 bytes == index_magic)) 0 2 count in
+    let magic = refuse (not (is_magic (little_number 4 bytes))) 0 2 count in
     let a = kept (nat_lt (length bytes) 10 || nat_lt (length bytes) (head_width_in bytes)) (length bytes) 1 magic none in
-    let b = kept (not (little_number 4 bytes == index_magic)) 0 2 count a.1 in
+    let b = kept (not (is_magic (little_number 4 bytes))) 0 2 count a.1 in
     (kept (rows_count_in bytes == 0) 4 3 least b.1).0
 
 some_rows : (pages : ℕ) (bytes : Bytes) → index_fault pages bytes ≡ None → 1 ≤ length (index_in bytes).rows

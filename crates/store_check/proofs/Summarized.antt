@@ -1,12 +1,10 @@
 -- What a summary says of a state, and why there is none.
-use Rattle.std.proofs.Common.{◌≡◌, ◌∙◌, ◌≤◌, ◌+◌, ℕ, true, List, [], length, sym, ap, subst, arith}
+use Rattle.std.proofs.Common.{◌≡◌, ◌≤◌, ◌+◌, ℕ, true, List, [], length, sym, ap, subst, arith}
 use Rattle.std.specs.Prelude.{Err, IsErrAnd, MatchResult, Ok, Some}
 use Rattle.std.specs.declared.result.Result.{Result}
 use Rattle.std.specs.List.{AllByRecursion, sum_by}
-use Rattle.std.proofs.lemmas.List.{length-map}
 use Rattle.disk_trait.specs.Image.{Image}
-use Rattle.entry_model.specs.Entries.{Entry, IsEntry, IsLogged}
-use Rattle.entry_model.specs.Newest.{newest_entries}
+use Rattle.entry_model.specs.Entries.{Entry, IsEntry}
 use Rattle.filter_api.specs.Spellings.{Spelling}
 use Rattle.image_model.proofs.OnlyEntries.{state_has_entries}
 use Rattle.image_model.proofs.Sound.{state_sound}
@@ -18,9 +16,9 @@ use Rattle.manifest_model.specs.Version.{Version, log_page_of}
 use Rattle.merge_rows.specs.Laws.{StandingMerges}
 use Rattle.merge_rows.specs.Merges.{Merge, merge_from, rows_left}
 use Rattle.merge_rows.specs.Steps.{IsSoundMerge}
-use Rattle.range_model.specs.Sources.{Sets, Source}
-use Rattle.state_model.proofs.SoundLogs.{logged_entries, newest_all}
-use Rattle.state_model.proofs.WithoutRanges.{memory_alone}
+use Rattle.log_model.specs.Changes.{IsLoggedChange}
+use Rattle.range_model.specs.Sources.{Change, Source, source_of}
+use Rattle.state_model.proofs.SoundLogs.{changes_entries, logged_changes}
 use Rattle.state_model.specs.Sound.{IsSound}
 use Rattle.state_model.specs.State.{State}
 use Rattle.state_model.specs.View.{memory, state_map}
@@ -52,21 +50,14 @@ module _ (spelling : Spelling) (s : State) (image there : Image) (held : there �
     pub tables_again : AreTablesOf spelling m.version.rows s.tables there
     tables_again = subst (λ (v : Version). AreTablesOf spelling v.rows s.tables there) (sym same) (subst (AreTablesOf spelling is.0.rows s.tables) (sym held) is.1.named.tables)
 
-    pub log_again : (area : ℕ) → log_page_of area ≡ m.version.log_page → LogIs area is.1.named.entries there
+    pub log_again : (area : ℕ) → log_page_of area ≡ m.version.log_page → LogIs area s.log there
     log_again area page =
         let same_area : is.1.named.area ≡ area = omega (arith, page, is.1.named.area_is, ap (λ (v : Version). v.log_page) same) in
-        subst (LogIs area is.1.named.entries) (sym held) (subst (λ (n : ℕ). LogIs n is.1.named.entries image) same_area is.1.named.log)
+        subst (LogIs area s.log) (sym held) (subst (λ (n : ℕ). LogIs n s.log image) same_area is.1.named.log)
 
-  -- it has no deleted range, and its log as many changes as entries
+  -- it has no deleted range
   only_again : HasOnlyEntries s is.1.named.entries
   only_again = state_has_entries spelling is.0 s image is.1.named
-
-  pub log_many : length s.log ≡ length is.1.named.entries
-  log_many = ap length is.1.named.sets ∙ length-map is.1.named.entries Sets
-
-  -- what a memory has that was made of its entries
-  pub memory_of : newest_entries is.1.named.entries ≡ memory s
-  memory_of = sym (ap (λ (source : Source). source.entries) (memory_alone s is.1.named.entries only_again))
 
   abbrev pub no_bytes : FilterBytes
   no_bytes settings keys = []
@@ -91,5 +82,5 @@ module _ (spelling : Spelling) (s : State) (image there : Image) (held : there �
     few_again = again (λ es f. length (rows_left (merge_with es) opened f) ≤ sum_by entries_in s.tables + length s.log) (rows_few no_bytes s sound_again is.1.named.entries only_again merges spelling image opened are)
 
 -- the entries in memory are those of a log
-pub memory_sound : (log entries : List Entry) → AllByRecursion IsLogged log → entries ≡ newest_entries log → AllByRecursion IsEntry entries
-memory_sound log entries each is = subst (AllByRecursion IsEntry) (sym is) (newest_all IsEntry log (logged_entries log each))
+pub memory_sound : (log : List Change) (memory : Source) → AllByRecursion IsLoggedChange log → memory ≡ source_of log → AllByRecursion IsEntry memory.entries
+memory_sound log memory each is = subst (λ (source : Source). AllByRecursion IsEntry source.entries) (sym is) (changes_entries log (logged_changes log each))

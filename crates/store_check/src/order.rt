@@ -54,7 +54,7 @@ impl Range {
         })
     }
 
-    // Whether a table may be after one whose keys lie here: below level 0 its keys come after, from its reach on.
+    // Whether a table may be after one whose keys lie here: below level 0 its keys come after the other's, and none lies below the end of the other's ranges.
     fn lets(&self, range: &Range) -> bool
         ensures { result ≡ follows self.now range.now }
     {

@@ -3,14 +3,16 @@ ghost use Rattle.std.specs.Prelude.{◌≡◌, ◌≤◌, ◌<◌, ◌+◌, ◌*
 ghost use Rattle.std.specs.List.{AllByRecursion, sum_by};
 ghost use Rattle.block_model.specs.Places.{FitsDevice};
 ghost use Rattle.disk_trait.specs.World.{ReadMoves};
-ghost use Rattle.entry_model.specs.Entries.{Entry as Change, IsLogged, filled};
 ghost use Rattle.image_model.specs.Stands.{IsStateOf};
 ghost use Rattle.image_model.specs.Tables.{AreTablesOf};
 ghost use Rattle.key_base.specs.Limits.{log_bytes, max_tables};
 ghost use Rattle.log_model.specs.Area.{LogIs};
+ghost use Rattle.log_model.specs.Changes.{IsLoggedChange};
 ghost use Rattle.manifest_model.specs.Laws.{IsVersion};
 ghost use Rattle.manifest_model.specs.Slots.{IsVersionOf};
 ghost use Rattle.manifest_model.specs.Version.{Version as Written, log_page_of};
+ghost use Rattle.range_model.specs.Sources.{ClearsKeys};
+ghost use Rattle.range_model.specs.Sources as model;
 ghost use Rattle.state_model.specs.State.{State};
 ghost use Rattle.table_file.specs.Faults.{IsNoDamage};
 ghost use Rattle.table_model.specs.Tables.{Table as Named};
@@ -22,7 +24,7 @@ use crate::finding::{Finding, broken_log, found_by};
 use crate::live::live_pairs;
 use byte_fields::Row;
 use disk_trait::{Disk, DiskFault};
-use entry_list::Entry;
+use entry_list::Change;
 use filter_api::RangeFilter;
 use gate_log::{Log, LogFault};
 use manifest::{ManifestFault, Version, load};
@@ -142,10 +144,11 @@ fn open_tables<F: RangeFilter, D: Disk>(
 }
 
 // The records of the log in an area.
-fn log_records<D: Disk>(alloc: Global, disk: &mut D, area: u8) -> Result<Vec<Entry>, SummaryError>
+fn log_records<D: Disk>(alloc: Global, disk: &mut D, area: u8) -> Result<Vec<Change>, SummaryError>
     requires { area ≤ 1 }
-    ensures exact { (records : List Change) → IsTrue D.tells → LogIs area records (D.world disk.old).seen.held → MatchResult result (λ found. found.items ≡ records) IsUndamaged }
-    ensures sound { IfOk result (λ found. AllByRecursion IsLogged found.items) }
+    ensures exact { (records : List model.Change) → IsTrue D.tells → LogIs area records (D.world disk.old).seen.held → MatchResult result (λ found. found.items ≡ records) IsUndamaged }
+    ensures sound { IfOk result (λ found. AllByRecursion IsLoggedChange found.items) }
+    ensures bounds { IfOk result (λ found. AllByRecursion ClearsKeys found.items) }
     ensures cause { IfErr result (HasSummaryCause (D.world disk.old) (D.world disk.new)) }
     ensures moves { ReadMoves 1 (D.world disk.old) (D.world disk.new) }
 {

@@ -19,9 +19,10 @@ module _ (spelling : Spelling) (bytes : FilterBytes) (before : StoreValue) (w : 
       images = tied.images;
       log = tied.log;
       memory = tied.memory;
+      ranges = tied.ranges;
       blocks = tied.blocks;
     };
-    reads = λ s image shown. record { sound = shown.sound; under = shown.under; memory = shown.memory };
+    reads = λ s image shown. record { sound = shown.sound; under = shown.under; memory = shown.memory; ranges = shown.ranges };
     flush = λ entries allowed some. let here = allowed some in record { few = here.few; page = here.page; gap = here.gap; epoch = here.epoch };
     entry = λ e allowed asks some. let here = allowed asks some in record { few = here.few; page = here.page; gap = here.gap; epoch = here.epoch };
   }

@@ -45,7 +45,7 @@ whole_asked store buffer blocks numbered whole = record {
   slot = whole.slot;
   rows = whole.rows;
   area = whole.area;
-  entries = whole.entries;
+  changes = whole.changes;
   job = whole.job;
   numbered = numbered;
 }
@@ -60,7 +60,7 @@ pub tied_asked : (spelling : Spelling) (bytes : FilterBytes) (store after : Stor
 tied_asked spelling bytes store after s n a b same moves says tied =
     let read = tied_read spelling bytes store s a b n moves tied in
     subst (λ (k : StoreValue). Represents spelling bytes k s b) (sym same)
-    (record { sound = read.sound; none_kept = read.none_kept; images = read.images; log = read.log; memory = read.memory; blocks = says })
+    (record { sound = read.sound; none_kept = read.none_kept; images = read.images; log = read.log; memory = read.memory; ranges = read.ranges; blocks = says })
 
 -- ---- where nothing of the key is in memory
 

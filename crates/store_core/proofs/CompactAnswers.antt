@@ -6,7 +6,7 @@ use Rattle.disk_trait.specs.Image.{Image}
 use Rattle.disk_trait.specs.World.{Meanwhile, Now, World}
 use Rattle.disk_trait.proofs.Moments.{meanwhile_weaker, started}
 use Rattle.disk_trait.specs.declared.fault.DiskFault.{DiskFault}
-use Rattle.entry_model.specs.Entries.{Entry, IsEntry}
+use Rattle.entry_model.specs.Entries.{IsEntry}
 use Rattle.filter_api.specs.Spellings.{Spelling}
 use Rattle.image_model.proofs.Frames.{ready_is_state}
 use Rattle.image_model.specs.Stands.{StandsForMap}
@@ -17,15 +17,16 @@ use Rattle.line_model.specs.Replies as reply
 use Rattle.line_model.specs.Requests.{Compact}
 use Rattle.log_model.proofs.Logs.{none_filled}
 use Rattle.manifest.specs.Manifest.{Manifest, other_place, place_of}
+use Rattle.mem_table.specs.Table.{source_in}
 use Rattle.state_model.proofs.EmptyStores.{compaction_left}
 use Rattle.state_model.proofs.SoundCompaction.{compacted_sound}
-use Rattle.state_model.proofs.SoundLogs.{logged_entries, newest_all, source_none}
+use Rattle.state_model.proofs.SoundLogs.{changes_entries, logged_changes, source_none}
 use Rattle.state_model.specs.Changes.{compact_placed, compacted_with}
 use Rattle.state_model.specs.Merges.{NoRoom}
 use Rattle.state_model.specs.Sound.{IsSound}
 use Rattle.state_model.specs.State.{Job, State, without_job}
 use Rattle.state_model.specs.Steps.{Answer, Step, answer, answers, done_or_refused, no_memory, read_failed, write_failed}
-use Rattle.range_model.specs.Sources.{Change}
+use Rattle.range_model.specs.Sources.{Change, Source, empty_source}
 use Rattle.state_model.specs.View.{changes_of, oldest_first, state_map}
 use Rattle.table_file.specs.Opened.{Opened}
 use Rattle.table_model.specs.Tables.{FilterBytes, Table}
@@ -65,7 +66,7 @@ module _ (spelling : Spelling) (bytes : FilterBytes) (store after : StoreValue) 
     done_is : answer bytes s Compact ≡ (reply.Done, compacted_into alone.tables (without_job s))
     done_is = answer_so (Ok alone.tables) alone.placed_so
 
-    pub compact_done : Meanwhile (StandsForMap spelling (state_map s)) a b → after.manifest ≡ m → after.tables ≡ opened → after.job ≡ None → after.log.filled ≡ 0 → after.memory.entries ≡ []
+    pub compact_done : Meanwhile (StandsForMap spelling (state_map s)) a b → after.manifest ≡ m → after.tables ≡ opened → after.job ≡ None → after.log.filled ≡ 0 → source_in after.memory ≡ empty_source
         → ((tables : List Table) → CacheAgrees after.blocks after.tables tables) → AnswersRequest spelling bytes s Compact (Some reply.Done) after a b
     compact_done meanwhile manifest_is tables_are none begun cleared are = record {
       reply = reply.Done;
@@ -82,7 +83,8 @@ module _ (spelling : Spelling) (bytes : FilterBytes) (store after : StoreValue) 
             (subst (λ (ts : List Opened). RepresentsOn spelling after.manifest ts None (compacted_into alone.tables (without_job s)) image) (sym tables_are)
             (subst (λ (n : Manifest). RepresentsOn spelling n opened None (compacted_into alone.tables (without_job s)) image) (sym manifest_is) (alone.images image here)));
         log = begun ∙ sym none_filled;
-        memory = cleared;
+        memory = ap (λ (source : Source). source.entries) cleared;
+        ranges = ap (λ (source : Source). source.ranges) cleared;
         blocks = are alone.tables;
       };
     }
@@ -101,6 +103,7 @@ module _ (spelling : Spelling) (bytes : FilterBytes) (store after : StoreValue) 
           (subst (λ (n : Manifest). RepresentsOn spelling n store.tables None (without_job s) image) (sym same_manifest) (here image left_there)));
       log = ap (λ (p : _). p.filled) same_log ∙ tied.log;
       memory = ap (λ (m : _). m.entries) same_memory ∙ tied.memory;
+      ranges = ap (λ (m : _). m.ranges) same_memory ∙ tied.ranges;
       blocks = subst (λ (b : Cached). CacheAgrees b after.tables s.tables) (sym same_blocks) (subst (λ (ts : List Opened). CacheAgrees store.blocks ts s.tables) (sym same_tables) tied.blocks);
     }
 
@@ -208,6 +211,7 @@ module _ (spelling : Spelling) (bytes : FilterBytes) (store : StoreValue) (s : S
             record { ready = under.ready; tables = under.tables; job = subst (λ (j : Option Job). RunsAs spelling store.tables None s j image) (sym no_job) tt };
         log = tied.log;
         memory = tied.memory;
+        ranges = tied.ranges;
         blocks = tied.blocks;
       };
     }
@@ -258,7 +262,7 @@ module _ (spelling : Spelling) (bytes : FilterBytes) (store after : StoreValue) 
   is_left : s.epoch ≢ last_epoch
   is_left last = let same : s.epoch ≡ store.manifest.version.epoch = under.ready.named.epoch in absurd (omega (arith, last, same, epoch))
 
-  pub answered_done : StandAlone spelling bytes (without_job s) after.manifest after.tables b → after.job ≡ None → after.log.filled ≡ 0 → after.memory.entries ≡ []
+  pub answered_done : StandAlone spelling bytes (without_job s) after.manifest after.tables b → after.job ≡ None → after.log.filled ≡ 0 → source_in after.memory ≡ empty_source
       → ((tables : List Table) → CacheAgrees after.blocks after.tables tables) → AnswersRequest spelling bytes s Compact (Some reply.Done) after a b
   answered_done alone gone begun cleared are =
       let sound = compacted_sound bytes (without_job s) (compacted_into alone.tables (without_job s)) tied.sound (compacted_ok bytes (without_job s) alone.tables refl some_are is_left alone.placed_so) in
@@ -273,15 +277,15 @@ module _ (spelling : Spelling) (bytes : FilterBytes) (store after : StoreValue) 
 -- ---- whatever the device is
 
 pub entries_sound : (store : StoreValue) → IsConsistent store → AllByRecursion IsEntry store.memory.entries
-entries_sound store whole = subst (AllByRecursion IsEntry) (sym whole.entries.memory_is) (newest_all IsEntry whole.entries.entries (logged_entries whole.entries.entries whole.entries.sound))
+entries_sound store whole = subst (λ (source : Source). AllByRecursion IsEntry source.entries) (sym whole.changes.memory_is) (changes_entries whole.changes.changes (logged_changes whole.changes.changes whole.changes.sound))
 
-pub compacted_whole : (after : StoreValue) (old : Manifest) → IsInstalledWhole old after.manifest after.tables after.log → after.memory.entries ≡ [] → after.job ≡ None → AreNumbered after.blocks (length after.tables) → IsConsistent after
+pub compacted_whole : (after : StoreValue) (old : Manifest) → IsInstalledWhole old after.manifest after.tables after.log → source_in after.memory ≡ empty_source → after.job ≡ None → AreNumbered after.blocks (length after.tables) → IsConsistent after
 compacted_whole after old is cleared gone numbered = record {
   version = is.version;
   slot = is.slot;
   rows = is.rows;
   area = is.area;
-  entries = record { entries = []; sound = tt; fits = omega (arith, none_filled); filled_is = is.begun ∙ sym none_filled; memory_is = cleared };
+  changes = record { changes = []; sound = tt; fits = omega (arith, none_filled); filled_is = is.begun ∙ sym none_filled; memory_is = cleared };
   job = subst (MayRunIn after.manifest.version after.tables) (sym gone) tt;
   numbered = numbered;
 }

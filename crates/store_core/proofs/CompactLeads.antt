@@ -1,6 +1,7 @@
 -- The other log is begun, and the version is installed in which the tables of a compaction are alone.
 use Rattle.std.proofs.Common.{◌≡◌, ◌≢◌, ◌⊎◌, inl, inr, ◌∙◌, ◌-◌, ◌<◌, ◌≤◌, ◌++◌, ℕ, Bool, true, false, cond, List, [], ◌∷◌, map, refl, sym, ap, subst, arith}
 use Rattle.std.specs.Prelude.{Option, None, Result, Ok, Err, OnOk, ◌==◌}
+use Rattle.std.specs.List.{AllByRecursion}
 use Rattle.std.proofs.lemmas.Bool.{ne_eqb}
 use Rattle.disk_trait.specs.Image.{Image, Torn}
 use Rattle.disk_trait.specs.World.{Leads, Meanwhile, Now, ReadMoves, World, WriteMoves}
@@ -19,14 +20,17 @@ use Rattle.manifest_model.specs.Laws.{IsVersion}
 use Rattle.manifest_model.specs.Version.{log_page_of}
 use Rattle.state_model.proofs.EmptyStores.{without_entries}
 use Rattle.state_model.proofs.Kept.{compacted_keeps}
+use Rattle.state_model.proofs.NoRanges.{placed_no_range}
 use Rattle.state_model.proofs.SoundCompaction.{compacted_sound}
+use Rattle.state_model.proofs.WithoutRanges.{compacted_alone}
 use Rattle.range_model.specs.Sources.{Change, source_of}
-use Rattle.state_model.specs.Changes.{compact_placed, compacted, compacted_outputs, compacted_with}
-use Rattle.state_model.specs.Merges.{placed}
+use Rattle.state_model.specs.Changes.{compact_placed, compacted, compacted_outputs, compacted_with, live_entries}
+use Rattle.state_model.specs.Merges.{outputs_for, placed}
 use Rattle.state_model.specs.Sound.{IsSound}
 use Rattle.state_model.specs.State.{Job, State, without_job, written_by}
 use Rattle.state_model.specs.Taken.{extent_of, taken}
 use Rattle.state_model.specs.View.{changes_of, memory, state_map}
+use Rattle.state_model.specs.WithoutRanges.{HasNoRange}
 use Rattle.line_model.specs.Replies.{LastEpoch}
 use Rattle.table_file.specs.Opened.{Opened}
 use Rattle.table_model.specs.Tables.{FilterBytes, Table}
@@ -74,6 +78,11 @@ pub compacted_ok : (bytes : FilterBytes) (s : State) (tables : List Table) → s
 compacted_ok bytes s tables none some other placed_so =
     compacted_so bytes s some other
     ∙ ap (compact_placed s) (ap (λ (es : List _). placed bytes s.settings s.pages es 6 (compacted_outputs s)) (alone s none) ∙ placed_so)
+
+-- its tables are made of entries alone
+compacted_no_range : (bytes : FilterBytes) (s : State) (tables : List Table) → compact_tables bytes s ≡ Ok tables → AllByRecursion HasNoRange tables
+compacted_no_range bytes s tables so =
+    placed_no_range bytes s.settings s.pages (taken s) 6 (outputs_for s.tables (live_entries s)) tables (ap (placed bytes s.settings s.pages (taken s) 6) (sym (compacted_alone s)) ∙ so)
 
 -- ---- the images
 
@@ -146,7 +155,7 @@ module _ (spelling : Spelling) (bytes : FilterBytes) (m : Manifest) (opened : Li
           → Leads (Before spelling m slot is made area s tables [] []) (StandsForMap spelling (state_map s)) (AfterInstall spelling m slot is made area s tables [] []) result c d
       same_page result leads =
           install_leads spelling m slot is made area s tables [] []
-          (subst (λ (page : ℕ). IsVersion (record m.version { log_page = page; rows = rows_of made })) area_is new_is) epoch none_kept to_sound.order (λ image named. refl) to_keeps result c d moves
+          (subst (λ (page : ℕ). IsVersion (record m.version { log_page = page; rows = rows_of made })) area_is new_is) epoch none_kept to_sound.order (λ image named. record { log = refl; tables = compacted_no_range bytes s tables placed_so }) to_keeps result c d moves
           (subst (λ (page : ℕ). Leads (StandsInSlot m.slot m.other_open m.version) (IsOldOrNew (install_of (record m { version = record m.version { log_page = page; rows = rows_of made } }) m.version))
           (IsInstalled (install_of (record m { version = record m.version { log_page = page; rows = rows_of made } }) m.version)) result c d) area_is leads)
 

@@ -29,7 +29,7 @@ use Rattle.merge_rows.proofs.Begins.{walks_known}
 use Rattle.merge_rows.specs.Steps.{AreWalksIn, stands}
 use Rattle.state_model.proofs.Places.{entries_in_pages}
 use Rattle.table_file.specs.Opened.{Opened}
-use Rattle.table_model.specs.Written.{row_for}
+use Rattle.table_model.specs.Written.{row_for, row_from}
 use Rattle.store_core.specs.Compacting.{AreCompact}
 use Rattle.store_core.specs.StoreValue.{rows_of}
 
@@ -48,7 +48,7 @@ pub record IsCompacting (v : Version) (tables : List Opened) (m : JobValue) (fre
 -- ---- a row
 
 row_of_table : (level first : ℕ) (settings : Settings) (entries : List Entry) (filter_bytes : Bytes) → level ≤ 6 → IsTable entries → IsTableRow (row_for level first settings entries filter_bytes)
-unfolding row_for
+unfolding row_from
 row_of_table level first settings entries filter_bytes small table = record {
   level = small;
   data_pages = omega (arith, table.some, entries_in_pages entries);
@@ -58,7 +58,7 @@ row_of_table level first settings entries filter_bytes small table = record {
 }
 
 level_of_row : (level first : ℕ) (settings : Settings) (entries : List Entry) (filter_bytes : Bytes) → (row_for level first settings entries filter_bytes).level ≡ level
-unfolding row_for
+unfolding row_from
 level_of_row level first settings entries filter_bytes = refl
 
 -- ---- it begins

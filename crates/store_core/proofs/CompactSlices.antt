@@ -293,7 +293,7 @@ module _ (spelling : Spelling) (bytes : FilterBytes) (m : Manifest) (opened : Li
     meanwhile = started Under a here;
     left = outputs;
     made = [];
-    makes = subst (λ (es : List Entry). OutputsLeft spelling opened a.seen.held (compaction es s.settings opened) outputs []) (sym memory_is) (begins spelling s (entries_in s) opened a.seen.held only.log held);
+    makes = subst (λ (es : List Entry). OutputsLeft spelling opened a.seen.held (compaction es s.settings opened) outputs []) (sym memory_is) (begins spelling s (entries_in s) opened a.seen.held only held);
     settings = refl;
     output = refl;
     pages = pages;

@@ -1,6 +1,6 @@
 -- Entries between two bounds, of entries whose keys rise.
 use Rattle.std.proofs.Common.{◌≡◌, ◌+◌, ◌≤◌, ◌<◌, ℕ, Bool, true, false, cond, not, ◌&&◌, List, [], ◌∷◌, length, refl, sym, ap, subst, arith}
-use Rattle.std.specs.Prelude.{Some, count_by}
+use Rattle.std.specs.Prelude.{Some, count_by, map}
 use Rattle.std.specs.List.{AllByRecursion}
 use Rattle.std.specs.Ordering.{is_lt}
 use Rattle.std.specs.Cmp.Lexicographic.{nat_list_cmp_total}
@@ -9,13 +9,15 @@ use Rattle.std.proofs.lemmas.List.Sums.{sum_by-cons}
 use Rattle.byte_fields.specs.declared.parts.Row.{Row}
 use Rattle.entry_model.specs.Entries.{Entry}
 use Rattle.entry_model.specs.Newest.{ComesBehind, KeysRise, entries_from}
-use Rattle.entry_model.proofs.Newest.{rises_after}
+use Rattle.log_model.specs.Changes.{recorded}
 use Rattle.map_model.specs.Slices.{is_before, is_between, is_up_to}
 use Rattle.map_model.specs.SortedMap.{Bytes}
 use Rattle.map_model.proofs.Between.{before_less}
-use Rattle.state_model.proofs.SoundLogs.{few_filled, newest_few}
+use Rattle.range_model.specs.Sources.{Source}
+use Rattle.state_model.proofs.Sayings.{source_sound}
+use Rattle.state_model.proofs.SoundLogs.{few_filled, source_few}
 use Rattle.table_file.specs.Opened.{Opened}
-use Rattle.store_core.specs.StoreValue.{IsConsistent, IsOfEntries, StoreValue}
+use Rattle.store_core.specs.StoreValue.{IsConsistent, IsOfChanges, StoreValue}
 
 abbrev pub up_to_count : Bytes → List Entry → ℕ
 up_to_count high entries = count_by (λ (e : Entry). is_up_to (Some high) e.key) entries
@@ -92,11 +94,12 @@ from_few low (e ∷ more) = elim (is_before e.key low) as (λ b. length (cond (n
 
 -- ---- the memory and the tables of a store
 
-pub memory_rises : (log : _) (memory : List Entry) → IsOfEntries log memory → KeysRise memory
-memory_rises log memory of = subst KeysRise (sym of.memory_is) (rises_after [] of.entries tt)
+pub memory_rises : (log : _) (memory : Source) → IsOfChanges log memory → KeysRise memory.entries
+memory_rises log memory of = subst (λ (source : Source). KeysRise source.entries) (sym of.memory_is) (source_sound of.changes).rises
 
-pub memory_few : (log : _) (memory : List Entry) → IsOfEntries log memory → length memory < 262144
-memory_few log memory of = omega (arith, ap (λ (es : List Entry). length es) of.memory_is, newest_few of.entries, few_filled of.entries, of.fits)
+pub memory_few : (log : _) (memory : Source) → IsOfChanges log memory → length memory.entries < 262144
+memory_few log memory of =
+    omega (arith, ap (λ (source : Source). length source.entries) of.memory_is, source_few of.changes, length-map of.changes recorded, few_filled (map recorded of.changes), of.fits)
 
 pub tables_few : (store : StoreValue) → IsConsistent store → length store.tables ≤ 1024
 tables_few store whole =

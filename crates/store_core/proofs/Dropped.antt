@@ -37,6 +37,7 @@ tied_dropped spelling bytes store s w tied = record {
   images = λ image left. under_dropped spelling store.manifest store.tables store.job s image tied.none_kept (tied.images image left);
   log = tied.log;
   memory = tied.memory;
+  ranges = tied.ranges;
   blocks = tied.blocks;
 }
 
@@ -52,5 +53,6 @@ tied_fields spelling bytes store after s w manifest_is tables_are job_is log_is 
       (subst (λ (m : Manifest). RepresentsOn spelling m store.tables store.job s image) (sym manifest_is) (tied.images image left)));
   log = ap (λ (p : _). p.filled) log_is ∙ tied.log;
   memory = ap (λ (m : _). m.entries) memory_is ∙ tied.memory;
+  ranges = ap (λ (m : _). m.ranges) memory_is ∙ tied.ranges;
   blocks = subst (λ (b : Cached). CacheAgrees b after.tables s.tables) (sym blocks_is) (subst (λ (ts : List Opened). CacheAgrees store.blocks ts s.tables) (sym tables_are) tied.blocks);
 }

@@ -9,7 +9,6 @@ use Rattle.disk_trait.specs.World.{Meanwhile, Now, World}
 use Rattle.disk_trait.specs.declared.fault.DiskFault.{DiskFault}
 use Rattle.disk_trait.proofs.Moments.{meanwhile_weaker, started}
 use Rattle.entry_model.specs.Entries.{Entry}
-use Rattle.entry_model.specs.Newest.{newest_entries}
 use Rattle.extent_model.proofs.Rooms.{gap_small}
 use Rattle.extent_model.specs.Extents.{AreLaid, Extent}
 use Rattle.extent_model.specs.Gaps.{first_gap, largest_gap}
@@ -26,7 +25,7 @@ use Rattle.manifest.specs.declared.fault.ManifestFault.TheVariants as fault
 use Rattle.manifest_model.specs.Laws.{IsVersion}
 use Rattle.manifest_model.specs.Version.{Version}
 use Rattle.map_model.specs.SortedMap.{Map}
-use Rattle.mem_table.specs.Table.{MemoryTable}
+use Rattle.mem_table.specs.Table.{MemoryTable, source_in}
 use Rattle.state_model.proofs.MostTables.{over_tables}
 use Rattle.state_model.proofs.Kept.{flushed_keeps}
 use Rattle.state_model.specs.Changes.{flushed}
@@ -34,9 +33,10 @@ use Rattle.state_model.specs.State.{State}
 use Rattle.state_model.specs.Taken.{taken}
 use Rattle.state_model.specs.View.{state_map}
 use Rattle.table_file.specs.Building.{Built}
+use Rattle.table_file.specs.Building as building
 use Rattle.table_file.specs.Opened.{Opened}
 use Rattle.table_file.specs.Writing.{made_filter, made_row}
-use Rattle.table_model.specs.Tables.{FilterBytes, filter_bytes_of, table_of, table_pages}
+use Rattle.table_model.specs.Tables.{FilterBytes, filter_bytes_of, source_pages, table_of, table_pages}
 use Rattle.store_core.specs.Answers.{WroteEntry, refused, stops, turns}
 use Rattle.store_core.specs.Faults.{of_manifest_fault}
 use Rattle.store_core.specs.Flushing.{FlushedTo, IsFlushFault, IsPlan, IsPlanRefusal, flushed_at, installed_manifest, need_under, opened_of, state_with}
@@ -55,7 +55,7 @@ use Rattle.store_core.proofs.Frames.{under_stands}
 use Rattle.store_core.proofs.Overs.{placed_sound}
 use Rattle.store_core.proofs.Plans.{pages_are, row_level}
 use Rattle.store_core.proofs.Writing.{never, tied_with}
-use Rattle.range_model.specs.Sources.{Change, alone, source_of}
+use Rattle.range_model.specs.Sources.{Change, Source, alone, empty_source, source_of}
 
 eq_true : (m n : ℕ) → m ≡ n → (m == n) ≡ true
 eq_true m n e = grind arith
@@ -98,7 +98,7 @@ module _ (spelling : Spelling) (bytes : FilterBytes) (store : StoreValue) (s : S
       (subst (λ (x : Result T StoreError). WroteEntry spelling bytes s change x store w w) (passed_on r error.Memory is) (wanted change w w tied (stands_now whole w tied)))
 
   -- with another room for entries
-  pub wanted_room : {T : Type 0} (change : Result State Reply) (r : Result T StoreError) (m : MemoryTable) (w : World) → IsErrAnd r (λ (e : StoreError). e ≡ error.Memory) → m.entries ≡ store.memory.entries
+  pub wanted_room : {T : Type 0} (change : Result State Reply) (r : Result T StoreError) (m : MemoryTable) (w : World) → IsErrAnd r (λ (e : StoreError). e ≡ error.Memory) → m ≡ record store.memory { spare = m.spare }
       → IsConsistent store → Represents spelling bytes store s w → WroteEntry spelling bytes s change r (record store { memory = m }) w w
   wanted_room {T = T} change r m w is kept whole tied =
       subst (λ (x : Result T StoreError). WroteEntry spelling bytes s change x (record store { memory = m }) w w) (passed_on r error.Memory is)
@@ -181,10 +181,10 @@ module _ (spelling : Spelling) (built_cutoff : ℕ → List Leaf → ℕ) (m : M
     (plan : IsPlan spelling built_cutoff m outputs entries parts row next) where
   pub row_again : row ≡ made_row spelling built_cutoff parts row.level row.first_page
   row_again =
-      let level_is : row.level ≡ 0 = ap (λ (r : Row). r.level) plan.row_is ∙ row_level row.first_page parts.settings parts.entries (made_filter spelling built_cutoff parts) in
+      let level_is : row.level ≡ 0 = ap (λ (r : Row). r.level) plan.row_is ∙ row_level row.first_page parts.settings (building.source_in parts) (made_filter spelling built_cutoff parts) in
       plan.row_is ∙ ap (λ (n : ℕ). made_row spelling built_cutoff parts n row.first_page) (sym level_is)
 
-  pub row_within : IsVersion m.version → AreLaid m.version.pages (extents_with m.version outputs) → IsVersion next.version → row.first_page + table_pages (filter_bytes_of spelling built_cutoff) parts.settings parts.entries ≤ next.version.pages
+  pub row_within : IsVersion m.version → AreLaid m.version.pages (extents_with m.version outputs) → IsVersion next.version → row.first_page + source_pages (filter_bytes_of spelling built_cutoff) parts.settings (building.source_in parts) ≤ next.version.pages
       → end_page row ≤ 16777216
   row_within is laid next_is fits = omega (arith, fits, next_is.few_pages, pages_are spelling built_cutoff m outputs entries parts row next is laid plan)
 
@@ -230,7 +230,7 @@ module _ (spelling : Spelling) (built_cutoff : ℕ → List Leaf → ℕ) (store
   same_map image (inr map) = inr (subst (λ (m : Map). StandsForMap spelling m image) (sym (flushed_keeps bytes behind to planned)) map)
 
   pub flush_done : {T U : Type 0} (x : T) (y : U) (after : StoreValue) → IsTable (source_of records).entries → FlushedTo spelling built_cutoff store s behind parts row next (Ok x) a b → after.manifest ≡ installed_manifest next
-      → after.tables ≡ opened_of built_cutoff parts row ∷ store.tables → after.job ≡ store.job → after.blocks ≡ store.blocks → IsConsistent store → after.log.filled ≡ 0 → after.memory.entries ≡ [] → WroteEntry spelling bytes s (flushed bytes behind) (Ok y) after a b
+      → after.tables ≡ opened_of built_cutoff parts row ∷ store.tables → after.job ≡ store.job → after.blocks ≡ store.blocks → IsConsistent store → after.log.filled ≡ 0 → source_in after.memory ≡ empty_source → WroteEntry spelling bytes s (flushed bytes behind) (Ok y) after a b
   flush_done x y after table replaces manifest_is tables_are same_job blocks_are whole begun cleared = turns to planned tt (record {
     meanwhile = meanwhile_weaker _ _ a b replaces.meanwhile same_map;
     wanted = tt;
@@ -242,7 +242,8 @@ module _ (spelling : Spelling) (built_cutoff : ℕ → List Leaf → ℕ) (store
           (subst (λ (m : Manifest). RepresentsOn spelling m (opened_of built_cutoff parts row ∷ store.tables) after.job to image) (sym manifest_is)
           (subst (λ (running : Option JobValue). RepresentsOn spelling (installed_manifest next) (opened_of built_cutoff parts row ∷ store.tables) running to image) (sym same_job) (replaces.done image left)));
       log = begun ∙ sym none_filled;
-      memory = cleared;
+      memory = ap (λ (source : Source). source.entries) cleared;
+      ranges = ap (λ (source : Source). source.ranges) cleared;
       blocks = subst (λ (b : Cached). CacheAgrees b after.tables to.tables) (sym blocks_are)
           (subst (λ (ts : List Opened). CacheAgrees store.blocks ts to.tables) (sym tables_are)
           (true_in_front store.blocks (opened_of built_cutoff parts row) store.tables (table_of bytes s.settings 0 row.first_page (source_of records).entries) s.tables whole.numbered tied.blocks));
@@ -262,6 +263,7 @@ module _ (spelling : Spelling) (built_cutoff : ℕ → List Leaf → ℕ) (store
         (subst (λ (running : Option JobValue). RepresentsOn spelling store.manifest store.tables running s image) (sym same_job) (images image left)));
     log = ap (λ (p : _). p.filled) same_log ∙ tied.log;
     memory = ap (λ (m : _). m.entries) same_memory ∙ tied.memory;
+    ranges = ap (λ (m : _). m.ranges) same_memory ∙ tied.ranges;
     blocks = subst (λ (b : Cached). CacheAgrees b after.tables s.tables) (sym same_blocks) (subst (λ (ts : List Opened). CacheAgrees store.blocks ts s.tables) (sym same_tables) tied.blocks);
   }
 

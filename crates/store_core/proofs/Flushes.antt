@@ -14,7 +14,7 @@ use Rattle.disk_trait.specs.declared.fault.DiskFault.{DiskFault}
 use Rattle.disk_trait.proofs.Calls.{leads_around, leads_framed, leads_then, leads_weaker, on_ok_two, reads_keep}
 use Rattle.disk_trait.proofs.Moments.{in_call, meanwhile_then, meanwhile_weaker}
 use Rattle.entry_model.specs.Entries.{Entry}
-use Rattle.range_model.specs.Sources.{Change, alone, source_of}
+use Rattle.range_model.specs.Sources.{Change, Source, alone, source_of}
 use Rattle.extent_model.proofs.Free.{gap_is_free}
 use Rattle.extent_model.proofs.Lists.{all_pairs, pairs_of}
 use Rattle.extent_model.specs.Extents.{AreApart, Extent, IsOnDevice}
@@ -43,13 +43,13 @@ use Rattle.state_model.specs.Sound.{StandsBefore}
 use Rattle.state_model.specs.State.{State}
 use Rattle.state_model.specs.Taken.{taken}
 use Rattle.state_model.specs.View.{state_map}
-use Rattle.table_file.specs.Building.{Built}
+use Rattle.table_file.specs.Building.{Built, source_in}
 use Rattle.table_file.specs.Opened.{Opened}
 use Rattle.table_file.specs.Writing.{IsWriteOf, StandsWith, made_row}
 use Rattle.table_model.proofs.OneTable.{one_table}
 use Rattle.table_model.specs.Images.{IsTableOf}
 use Rattle.table_model.specs.Laws.{IsApartFromRow}
-use Rattle.table_model.specs.Tables.{FilterBytes, Table, filter_bytes_of, table_of, table_pages}
+use Rattle.table_model.specs.Tables.{FilterBytes, Table, filter_bytes_of, source_pages, table_from, table_of, table_pages}
 use Rattle.store_core.specs.Answers.{is_write}
 use Rattle.store_core.specs.Flushing.{FlushedTo, IsFlushFault, IsPlan, flushed_at, installed_manifest, next_manifest, opened_of, other_log_page}
 use Rattle.store_core.specs.StoreValue.{IsConsistent, StoreValue}
@@ -135,7 +135,7 @@ module _ (image_law : OtherImageIsFollowed) (flush_law : FlushedIsFollowed) (spe
   v = store.manifest.version
 
   abbrev need : ℕ
-  need = table_pages (filter_bytes_of spelling built_cutoff) parts.settings parts.entries
+  need = source_pages (filter_bytes_of spelling built_cutoff) parts.settings (source_in parts)
 
   -- the table that is made, the state and the manifest after the flush
   abbrev made : Table
@@ -163,7 +163,7 @@ module _ (image_law : OtherImageIsFollowed) (flush_law : FlushedIsFollowed) (spe
   -- the table as the call that writes it says it
   abbrev IsThere : Image → Type 0
   IsThere = IsTableOf spelling (made_row spelling built_cutoff parts 0 row.first_page)
-      (table_of (filter_bytes_of spelling built_cutoff) parts.settings 0 row.first_page parts.entries)
+      (table_from (filter_bytes_of spelling built_cutoff) parts.settings 0 row.first_page (source_in parts))
 
   abbrev IsOpenThere : Image → Type 0
   IsOpenThere = StandsWith spelling (opened_of built_cutoff parts (made_row spelling built_cutoff parts 0 row.first_page)) parts.entries
@@ -175,8 +175,8 @@ module _ (image_law : OtherImageIsFollowed) (flush_law : FlushedIsFollowed) (spe
     settings_are : parts.settings ≡ s.settings
     settings_are = ap (λ (b : Built). b.settings) plan.parts_are ∙ sym agrees.settings
 
-    entries_are : parts.entries ≡ (source_of records).entries
-    entries_are = ap (λ (b : Built). b.entries) plan.parts_are
+    source_is : source_in parts ≡ alone (source_of records).entries
+    source_is = ap source_in plan.parts_are
 
     few : length s.tables < 1024
     few = omega (arith, plan.few, agrees.many)
@@ -189,11 +189,11 @@ module _ (image_law : OtherImageIsFollowed) (flush_law : FlushedIsFollowed) (spe
         ∙ plan.place
 
     need_is : table_pages (filter_bytes_of spelling built_cutoff) s.settings (source_of records).entries ≡ need
-    need_is = ap₂ (λ (set : Settings) (es : List Entry). table_pages filter_bytes set es) (sym settings_are) (sym entries_are)
+    need_is = ap₂ (λ (set : Settings) (source : Source). source_pages filter_bytes set source) (sym settings_are) (sym source_is)
 
     free : IsOnDevice s.pages (row.first_page, need) × AllByRecursion (AreApart (row.first_page, need)) (taken s)
     free =
-        gap_is_free s.pages (taken s) need row.first_page (some_pages filter_bytes parts.settings parts.entries) tied.sound.on_device
+        gap_is_free s.pages (taken s) need row.first_page (omega (arith, need_is, some_pages filter_bytes s.settings (source_of records).entries)) tied.sound.on_device
         (subst (λ (n : ℕ). first_gap s.pages (taken s) n ≡ Some row.first_page) need_is gap)
 
     from : 192 ≤ row.first_page
@@ -204,15 +204,15 @@ module _ (image_law : OtherImageIsFollowed) (flush_law : FlushedIsFollowed) (spe
     held_there : (image : Image) → IsThere image → IsOpenThere image → Agrees image
     held_there image is stands =
         let first : TableAgrees spelling (opened_of built_cutoff parts (made_row spelling built_cutoff parts 0 row.first_page))
-        (table_of filter_bytes parts.settings 0 row.first_page parts.entries) image =
+        (table_from filter_bytes parts.settings 0 row.first_page (source_in parts)) image =
         record {
           blocks = stands.0;
           stands = stands.1;
           table_is = one_table spelling _ _ _ image is (stands.0, stands.1.at, refl);
         } in
-        subst (λ (es : List Entry). TableAgrees spelling (opened_of built_cutoff parts row) (table_of filter_bytes s.settings 0 row.first_page es) image) entries_are
-        (subst (λ (set : Settings). TableAgrees spelling (opened_of built_cutoff parts row) (table_of filter_bytes set 0 row.first_page parts.entries) image) settings_are
-        (subst (λ (r : Row). TableAgrees spelling (opened_of built_cutoff parts r) (table_of filter_bytes parts.settings 0 row.first_page parts.entries) image) (sym plan.row_is) first))
+        subst (λ (source : Source). TableAgrees spelling (opened_of built_cutoff parts row) (table_from filter_bytes s.settings 0 row.first_page source) image) source_is
+        (subst (λ (set : Settings). TableAgrees spelling (opened_of built_cutoff parts row) (table_from filter_bytes set 0 row.first_page (source_in parts)) image) settings_are
+        (subst (λ (r : Row). TableAgrees spelling (opened_of built_cutoff parts r) (table_from filter_bytes parts.settings 0 row.first_page (source_in parts)) image) (sym plan.row_is) first))
 
     held_apart : (at n : ℕ) (f g : Image) → at + n ≤ 4096 * row.first_page → Torn at n f g → Agrees f → Agrees g
     held_apart at n f g before torn held =
@@ -297,9 +297,10 @@ module _ (image_law : OtherImageIsFollowed) (flush_law : FlushedIsFollowed) (spe
         order = all_pairs StandsBefore (made ∷ s.tables) (first_of_all made s.tables refl, pairs_of StandsBefore s.tables tied.sound.order);
         area = area;
         area_is = page_is;
-        entries = [];
         log = log;
+        entries = [];
         sets = refl;
+        no_ranges = (refl, named.no_ranges);
         no_job = refl;
         none_kept = refl;
       }

@@ -16,10 +16,10 @@ use Rattle.manifest_model.specs.Laws.{IsVersion}
 use Rattle.manifest_model.specs.Rows.{extent_of}
 use Rattle.manifest_model.specs.Version.{Version, log_page_of}
 use Rattle.std.proofs.lemmas.List.{map-append}
-use Rattle.table_file.specs.Building.{Built}
+use Rattle.table_file.specs.Building.{Built, source_in}
 use Rattle.log_model.specs.Area.{start_of}
 use Rattle.table_model.specs.Laws.{IsApartFromRow}
-use Rattle.table_model.specs.Tables.{filter_bytes_of, table_pages}
+use Rattle.table_model.specs.Tables.{filter_bytes_of, source_pages}
 use Rattle.store_core.specs.Flushing.{IsPlan, other_log_page}
 use Rattle.store_core.specs.Running.{extents_with}
 use Rattle.store_core.proofs.PlannedRows.{first_of_both}
@@ -170,9 +170,9 @@ module _ (spelling : Spelling) (built_cutoff : ℕ → List Leaf → ℕ) (m : M
   abbrev P : ℕ → Type 0
   P = IsInUse m 262144
 
-  pub table_left : (a b : World) → WriteMoves (byte_of_page row.first_page) (4096 * table_pages (filter_bytes_of spelling built_cutoff) parts.settings parts.entries) a b → LeavesPlaces P a b
+  pub table_left : (a b : World) → WriteMoves (byte_of_page row.first_page) (4096 * source_pages (filter_bytes_of spelling built_cutoff) parts.settings (source_in parts)) a b → LeavesPlaces P a b
   table_left a b moves =
-      let need = table_pages (filter_bytes_of spelling built_cutoff) parts.settings parts.entries in
+      let need = source_pages (filter_bytes_of spelling built_cutoff) parts.settings (source_in parts) in
       let free = plan_is_free spelling built_cutoff m outputs entries parts row next is laid plan in
       leaves_write P (byte_of_page row.first_page) (4096 * need) a b (row_outside m is few outputs row.first_page need free.0.from free.1) moves
 

@@ -1,7 +1,7 @@
 -- The tables of a merge take the place of those that it read, in memory as in the state.
-use Rattle.std.proofs.Common.{◌≡◌, ◌∙◌, ℕ, suc, Bool, true, false, cond, List, [], ◌∷◌, length, fold, refl, sym, ap, subst}
+use Rattle.std.proofs.Common.{◌≡◌, ◌∙◌, ℕ, suc, Bool, true, false, cond, List, [], ◌∷◌, length, fold, refl, ap, subst}
 use Rattle.std.specs.Prelude.{◌==◌, ◌&&◌, ◌||◌, nat_lt}
-use Rattle.std.specs.List.{list_any}
+use Rattle.std.specs.List.{AllByRecursion, list_any}
 use Rattle.disk_trait.specs.Image.{Image}
 use Rattle.filter_api.specs.Spellings.{Spelling}
 use Rattle.key_base.specs.ByteOrder.{is_before}
@@ -9,8 +9,10 @@ use Rattle.store_search.specs.TablesAgree.{TableAgrees, TablesAgree}
 use Rattle.level_merge.specs.Laws.{StandingAgrees}
 use Rattle.level_merge.specs.Plans.{Agrees}
 use Rattle.map_model.specs.SortedMap.{Bytes}
+use Rattle.state_model.proofs.Installs.{insert_all}
 use Rattle.state_model.specs.Merges.{least_key}
 use Rattle.state_model.specs.Tends as model
+use Rattle.state_model.specs.WithoutRanges.{HasNoRange}
 use Rattle.table_file.specs.Opened.{Opened}
 use Rattle.table_model.specs.Tables.{Table}
 use Rattle.store_core.specs.Install.{goes_before, others_in, put_in}
@@ -18,9 +20,6 @@ use Rattle.store_core.specs.Install.{goes_before, others_in, put_in}
 -- ---- tables that are held are alike
 
 module _ (agree : StandingAgrees) (spelling : Spelling) (image : Image) where
-  held_agrees : (o : Opened) (t : Table) → TableAgrees spelling o t image → Agrees o t
-  held_agrees o t held = subst (Agrees o) (sym held.table_is) (agree spelling o held.blocks image held.stands)
-
   abbrev ahead : ℕ → ℕ → Bytes → Bytes → Bool
   ahead level other least other_least = nat_lt level other || ((level == other) && is_before least other_least)
 
@@ -31,25 +30,26 @@ module _ (agree : StandingAgrees) (spelling : Spelling) (image : Image) where
       ∙ ap (λ (k : Bytes). ahead t.level u.level k p.index.least) first.least
       ∙ ap (λ (k : Bytes). ahead t.level u.level (least_key t) k) second.least
 
-  put_held : (o : Opened) (t : Table) (opened : List Opened) (tables : List Table) → TableAgrees spelling o t image → TablesAgree spelling opened tables image
+  put_held : (o : Opened) (t : Table) (opened : List Opened) (tables : List Table) → TableAgrees spelling o t image → TablesAgree spelling opened tables image → HasNoRange t → AllByRecursion HasNoRange tables
       → TablesAgree spelling (put_in opened o) (model.inserted tables t) image
-  put_held o t [] [] one held = (one, tt)
-  put_held o t [] (u ∷ tables) one held = absurd held
-  put_held o t (p ∷ opened) [] one held = absurd held
-  put_held o t (p ∷ opened) (u ∷ tables) one held =
-      let same = alike o p t u (held_agrees o t one) (held_agrees p u held.0) in
+  put_held o t [] [] one held none none_of = (one, tt)
+  put_held o t [] (u ∷ tables) one held none none_of = absurd held
+  put_held o t (p ∷ opened) [] one held none none_of = absurd held
+  put_held o t (p ∷ opened) (u ∷ tables) one held none none_of =
+      let same = alike o p t u (agree spelling o t image one none) (agree spelling p u image held.0 none_of.0) in
       subst (λ (b : Bool). TablesAgree spelling (put_in (p ∷ opened) o) (cond b (t ∷ u ∷ tables) (u ∷ model.inserted tables t)) image) same
       (elim (goes_before o p) as (λ b. TablesAgree spelling (cond b (o ∷ p ∷ opened) (p ∷ put_in opened o)) (cond b (t ∷ u ∷ tables) (u ∷ model.inserted tables t)) image) [
         | true ↦ (one, held)
-        | false ↦ (held.0, put_held o t opened tables one held.1)
+        | false ↦ (held.0, put_held o t opened tables one held.1 none none_of.1)
       ])
 
   pub fold_held : (made opened : List Opened) (written tables : List Table) → TablesAgree spelling made written image → TablesAgree spelling opened tables image
-      → TablesAgree spelling (fold put_in opened made) (fold model.inserted tables written) image
-  fold_held [] opened [] tables new held = held
-  fold_held [] opened (u ∷ written) tables new held = absurd new
-  fold_held (o ∷ made) opened [] tables new held = absurd new
-  fold_held (o ∷ made) opened (t ∷ written) tables new held = fold_held made (put_in opened o) written (model.inserted tables t) new.1 (put_held o t opened tables new.0 held)
+      → AllByRecursion HasNoRange written → AllByRecursion HasNoRange tables → TablesAgree spelling (fold put_in opened made) (fold model.inserted tables written) image
+  fold_held [] opened [] tables new held none none_of = held
+  fold_held [] opened (u ∷ written) tables new held none none_of = absurd new
+  fold_held (o ∷ made) opened [] tables new held none none_of = absurd new
+  fold_held (o ∷ made) opened (t ∷ written) tables new held none none_of =
+      fold_held made (put_in opened o) written (model.inserted tables t) new.1 (put_held o t opened tables new.0 held none.0 none_of) none.1 (insert_all HasNoRange t tables none.0 none_of)
 
 pub many_held : (spelling : Spelling) (image : Image) (opened : List Opened) (tables : List Table) → TablesAgree spelling opened tables image → length opened ≡ length tables
 many_held spelling image [] [] held = refl

@@ -1,6 +1,6 @@
 -- A version is installed whose rows are those of open tables: what a crash leaves meanwhile.
 use Rattle.std.proofs.Common.{◌≡◌, inl, inr, ◌≤◌, ◌<◌, ◌+◌, ℕ, true, List, [], ◌∷◌, refl, sym, ap, subst, arith}
-use Rattle.std.specs.Prelude.{None, Result, map}
+use Rattle.std.specs.Prelude.{None, Result}
 use Rattle.std.specs.List.{AllPairs}
 use Rattle.disk_trait.specs.Image.{Image, Torn}
 use Rattle.disk_trait.specs.World.{Leads, World, WriteMoves}
@@ -28,7 +28,8 @@ use Rattle.table_file.specs.Opened.{Opened}
 use Rattle.table_model.specs.Tables.{Table}
 use Rattle.store_core.specs.StoreValue.{rows_of}
 use Rattle.store_core.proofs.Frames.{held_kept}
-use Rattle.range_model.specs.Sources.{Change, Sets}
+use Rattle.range_model.specs.Sources.{Change}
+use Rattle.state_model.specs.WithoutRanges.{HasOnlyEntries}
 
 -- tables that are held are those of their rows
 pub held_are_tables : (spelling : Spelling) (image : Image) (opened : List Opened) (tables : List Table) → TablesAgree spelling opened tables image
@@ -55,17 +56,17 @@ module _ (spelling : Spelling) (m : Manifest) (slot_few : m.slot ≤ 1) (is : Is
 
   -- what an image shows before it, and after it
   abbrev pub Before : Image → Type 0
-  Before image = IsReady spelling (place_of m.slot) (other_place m.slot) m.other_open m.version s image × (TablesAgree spelling opened tables image × LogIs area records image)
+  Before image = IsReady spelling (place_of m.slot) (other_place m.slot) m.other_open m.version s image × (TablesAgree spelling opened tables image × LogIs area log image)
 
   abbrev pub AfterInstall : Image → Type 0
   AfterInstall image = IsReady spelling (other_place m.slot) (place_of m.slot) true (raised (record m.version { log_page = log_page_of area; rows = rows_of opened }))
       (record s { epoch = s.epoch + 1; log = log; tables = tables; job = None }) image × TablesAgree spelling opened tables image
 
   module _ (new_is : IsVersion (record m.version { log_page = log_page_of area; rows = rows_of opened })) (epoch : m.version.epoch < last_epoch) (none_kept : s.kept ≡ [])
-      (order : AllPairs StandsBefore tables) (sets : (image : Image) → IsNamedBy spelling m.version (as_shown s) image → log ≡ map Sets records) (same_map : state_map (record s { epoch = s.epoch + 1; log = log; tables = tables; job = None }) ≡ state_map s) where
+      (order : AllPairs StandsBefore tables) (only : (image : Image) → IsNamedBy spelling m.version (as_shown s) image → HasOnlyEntries (record s { epoch = s.epoch + 1; log = log; tables = tables; job = None }) records) (same_map : state_map (record s { epoch = s.epoch + 1; log = log; tables = tables; job = None }) ≡ state_map s) where
     -- all that lies after the slots
     abbrev Behind : Image → Type 0
-    Behind image = IsNamedBy spelling m.version (as_shown s) image × (TablesAgree spelling opened tables image × LogIs area records image)
+    Behind image = IsNamedBy spelling m.version (as_shown s) image × (TablesAgree spelling opened tables image × LogIs area log image)
 
     slots_keep : (f g : Image) → Behind f → Torn (other_place m.slot) 131072 f g → Behind g
     slots_keep f g here torn =
@@ -74,7 +75,7 @@ module _ (spelling : Spelling) (m : Manifest) (slot_few : m.slot ≤ 1) (is : Is
           (
             held_kept spelling (other_place m.slot) 131072 f g torn opened tables
                 (behind_logs (next_of).version (other_place m.slot) 131072 new_is (omega (arith, before))) here.1.0,
-            log_kept area records (other_place m.slot) 131072 f g (inr (omega (arith, before))) torn here.1.1,
+            log_kept area log (other_place m.slot) 131072 f g (inr (omega (arith, before))) torn here.1.1,
           ),
         )
 
@@ -87,9 +88,10 @@ module _ (spelling : Spelling) (m : Manifest) (slot_few : m.slot ≤ 1) (is : Is
       order = order;
       area = area;
       area_is = refl;
-      entries = records;
       log = here.1.1;
-      sets = sets image here.0;
+      entries = records;
+      sets = (only image here.0).log;
+      no_ranges = (only image here.0).tables;
       no_job = refl;
       none_kept = refl;
     }

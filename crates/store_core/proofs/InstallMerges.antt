@@ -26,8 +26,9 @@ use Rattle.manifest_model.specs.Version.{log_page_of}
 use Rattle.merge_rows.proofs.Begins.{numbers_known}
 use Rattle.merge_rows.specs.Steps.{numbers}
 use Rattle.state_model.proofs.Installs.{state_apart}
+use Rattle.state_model.proofs.NoRanges.{installed_no_range, written_no_range}
 use Rattle.state_model.proofs.SoundInstalls.{slice_keeps, slice_sound}
-use Rattle.state_model.specs.Sound.{IsSound}
+use Rattle.state_model.specs.Sound.{IsSound, MayRun}
 use Rattle.state_model.specs.SoundLaws.{Ever}
 use Rattle.state_model.specs.State.{Job, State, without_job}
 use Rattle.state_model.specs.Tends.{IsDone, Progresses, Tend, Worked, installed, installed_tables, installs}
@@ -52,7 +53,7 @@ use Rattle.store_core.proofs.InstallHeld.{many_held}
 use Rattle.store_core.proofs.InstallLeads.{AfterInstall, Before, install_leads}
 use Rattle.store_core.proofs.InstallOthers.{behind_held}
 use Rattle.store_core.proofs.InstallRefusals.{slot_writes}
-use Rattle.store_core.proofs.Recorded.{entries_in, named_log, named_only}
+use Rattle.store_core.proofs.Recorded.{entries_in, named_only}
 
 -- ---- the state
 
@@ -92,11 +93,12 @@ module _ (agree : StandingAgrees) (spelling : Spelling) (bytes : FilterBytes) (s
       let many = many_held spelling image store.tables s.tables under.tables in
       let there = subst (λ (n : ℕ). AllByRecursion (λ (k : ℕ). k < n) (numbers run.merge.walks)) many (numbers_known run.merge.walks store.tables run_is.numbers) in
       let made = f.makes.made_are in
+      let none = under.ready.named.no_ranges in
       let same : under.ready.named.area ≡ store.log.area = omega (arith, under.ready.named.area_is, area) in (
         under.ready,
         (
-          behind_held agree spelling image store.tables s.tables run job (state_apart bytes s tied.sound) there f.inputs under.tables made,
-          subst (λ (n : ℕ). LogIs n (entries_in s) image) same (named_log spelling m.version (as_shown s) image under.ready.named),
+          behind_held agree spelling image store.tables s.tables run job (state_apart bytes s tied.sound) there f.inputs under.tables made none (written_no_range bytes s.settings s.tables job (subst (MayRun bytes s.settings s.tables) runs tied.sound.job) none),
+          subst (λ (n : ℕ). LogIs n s.log image) same under.ready.named.log,
         ),
       )
 
@@ -121,6 +123,7 @@ module _ (agree : StandingAgrees) (spelling : Spelling) (bytes : FilterBytes) (s
           images = reads_keep Under 0 a b reads tied.images;
           log = tied.log;
           memory = tied.memory;
+          ranges = tied.ranges;
           blocks = tied.blocks;
         }));
   }
@@ -150,7 +153,7 @@ module _ (agree : StandingAgrees) (spelling : Spelling) (bytes : FilterBytes) (s
         let left : s.epoch ≢ last_epoch = λ last. absurd (omega (arith, last, epoch, below)) in
         install_leads spelling m slot is behind store.log.area s (installed_tables s.tables job) s.log (entries_in s)
         (subst (λ (page : ℕ). IsVersion (record m.version { log_page = page; rows = rows_of behind })) area new_is) below tied.none_kept
-        (installed_sound bytes s job tied.sound runs done left).order (λ image named. (named_only spelling m.version (as_shown s) image named).log) (installed_keeps bytes s job tied.sound runs done left) result a b moves (page_same result leads)
+        (installed_sound bytes s job tied.sound runs done left).order (λ image named. let before = named_only spelling m.version (as_shown s) image named in record { log = before.log; tables = installed_no_range bytes s job tied.sound runs before.tables }) (installed_keeps bytes s job tied.sound runs done left) result a b moves (page_same result leads)
 
     befores : Now (Before spelling m slot is behind store.log.area s (installed_tables s.tables job) s.log (entries_in s)) a
     befores image here = to_before image (tied.images image here)
@@ -197,6 +200,7 @@ module _ (agree : StandingAgrees) (spelling : Spelling) (bytes : FilterBytes) (s
                     };
                 log = tied.log;
                 memory = tied.memory;
+                ranges = tied.ranges;
                 blocks = true_anew store.blocks (length store.tables) behind (installed s job).tables numbered;
               });
           refused = tt;

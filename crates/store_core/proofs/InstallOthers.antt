@@ -7,7 +7,9 @@ use Rattle.disk_trait.specs.Image.{Image}
 use Rattle.extent_model.proofs.Lists.{Pairs}
 use Rattle.filter_api.specs.Spellings.{Spelling}
 use Rattle.store_search.specs.TablesAgree.{TablesAgree}
+use Rattle.extent_model.proofs.Lists.{all_kept}
 use Rattle.level_merge.specs.Laws.{StandingAgrees}
+use Rattle.state_model.specs.WithoutRanges.{HasNoRange}
 use Rattle.level_merge.specs.JobValue.{JobValue}
 use Rattle.merge_rows.specs.Merges.{numbered}
 use Rattle.merge_rows.specs.Steps.{numbers}
@@ -111,10 +113,10 @@ module _ (all : List Table) (apart : Pairs Apart all) where
 
 pub behind_held : StandingAgrees → (spelling : Spelling) (image : Image) (opened : List Opened) (tables : List Table) (m : JobValue) (job : Job) → Pairs Apart tables
     → AllByRecursion (λ (n : ℕ). n < length tables) (numbers m.merge.walks) → map (numbered tables) (numbers m.merge.walks) ≡ map (λ (t : Table). Some t) job.inputs
-    → TablesAgree spelling opened tables image → TablesAgree spelling m.made job.written image
+    → TablesAgree spelling opened tables image → TablesAgree spelling m.made job.written image → AllByRecursion HasNoRange tables → AllByRecursion HasNoRange job.written
     → TablesAgree spelling (tables_behind opened m) (installed_tables tables job) image
-behind_held agree spelling image opened tables m job apart there inputs held made =
+behind_held agree spelling image opened tables m job apart there inputs held made none none_written =
     let which = numbers m.merge.walks in
     fold_held agree spelling image m.made (others_in which opened) job.written (without job.inputs tables) made
     (subst (λ (l : List Table). TablesAgree spelling (others_in which opened) l image) (sym (without_others tables apart which job.inputs there inputs))
-    (others_held spelling image which opened tables held))
+    (others_held spelling image which opened tables held)) none_written (all_kept HasNoRange _ tables none)

@@ -59,6 +59,8 @@ pub mod ScanPairs
 pub mod ScanReads
 pub mod ScanStates
 pub mod ScanSteps
+pub mod ScanTables
+pub mod ScanWaking
 pub mod ShownBlocks
 pub mod SliceWork
 pub mod SlicesLeft

@@ -211,5 +211,5 @@ pub none_left : (entries : List Entry) → length entries ≤ 0 → entries ≡ 
 none_left [] few = refl
 none_left (e ∷ more) few = absurd (omega (arith, few))
 
-pub built_as : (built before : Built) (entries : List Entry) → built.settings ≡ before.settings → built.entries ≡ entries → built ≡ record before { entries = entries }
-built_as built before entries same are = ap₂ (λ (s : Settings) (es : List Entry). record { settings = s; entries = es }) same are
+pub built_as : (built before : Built) (entries : List Entry) → built.settings ≡ before.settings → built.ranges ≡ before.ranges → built.entries ≡ entries → built ≡ record before { entries = entries }
+built_as built before entries settings ranges are = λ i. record { settings = settings i; entries = are i; ranges = ranges i }

@@ -32,9 +32,10 @@ fresh spelling settings pages image version log = (
       order = λ i j d before within. absurd (omega (arith, within));
       area = 0;
       area_is = refl;
-      entries = [];
       log = log;
+      entries = [];
       sets = refl;
+      no_ranges = tt;
       no_job = refl;
       none_kept = refl;
     };

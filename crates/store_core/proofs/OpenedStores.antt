@@ -9,8 +9,6 @@ use Rattle.byte_fields.specs.declared.parts.Row.{Row}
 use Rattle.disk_trait.specs.Image.{Image}
 use Rattle.disk_trait.specs.World.{IsDurable, ReadMoves, SyncMoves, World}
 use Rattle.disk_trait.proofs.Calls.{reads_keep}
-use Rattle.entry_model.specs.Entries.{Entry, filled}
-use Rattle.entry_model.specs.Newest.{newest_entries}
 use Rattle.filter_api.specs.Spellings.{Spelling, SpellsOne}
 use Rattle.gate_log.specs.Faults.{IsShapeIn}
 use Rattle.gate_log.specs.declared.fault.LogFault.{LogFault}
@@ -22,6 +20,7 @@ use Rattle.image_model.specs.Stands.{IsNamedBy, IsStateOf, UnnamedStand, as_show
 use Rattle.image_model.specs.Tables.{AreTablesOf}
 use Rattle.log_model.proofs.Ends.{one_list}
 use Rattle.log_model.specs.Area.{LogIs, Position, area_in}
+use Rattle.log_model.specs.Changes.{filled_by}
 use Rattle.manifest.proofs.Steps.{are_slots}
 use Rattle.manifest.specs.Loading.{IsLoadAnswer, IsLoaded}
 use Rattle.manifest.specs.Manifest.{Manifest, other_place, place_of}
@@ -32,6 +31,7 @@ use Rattle.manifest_model.specs.Slots.{IsVersionOf}
 use Rattle.manifest_model.specs.Tables.{ranges_fault}
 use Rattle.manifest_model.specs.Version.{Version, log_page_of}
 use Rattle.map_model.specs.SortedMap.{Bytes}
+use Rattle.mem_table.specs.Table.{source_in}
 use Rattle.state_model.specs.State.{State}
 use Rattle.table_file.specs.Faults.{filter_fault_of}
 use Rattle.table_file.specs.Opened.{Opened}
@@ -48,11 +48,8 @@ use Rattle.store_search.proofs.Caches.{none_true}
 use Rattle.store_core.proofs.Causes.{refusal_behind}
 use Rattle.store_core.proofs.OpeningTables.{all_opened, as_many, held_of, ranges_are}
 use Rattle.store_core.proofs.Runs.{none_run}
-use Rattle.store_core.proofs.Recorded.{entries_in, named_log, named_only}
-use Rattle.range_model.specs.Sources.{Source}
-use Rattle.state_model.proofs.WithoutRanges.{memory_alone}
-use Rattle.state_model.specs.View.{memory}
-use Rattle.state_model.specs.Logs.{filled_by}
+use Rattle.range_model.specs.Sources.{Change, Source, source_of}
+use Rattle.state_model.specs.View.{in_memory}
 
 -- ---- what is answered of an image
 
@@ -104,8 +101,8 @@ module _ (spelling : Spelling) (first : Bytes → Fault) (image : Image) where
             at_the_version (place_of m.slot) (other_place m.slot) m.version (are_slots m.slot loaded.slot) loaded.stands.current
             (at_the_log area at rule all_of_rows (ranges_of_rows ∙ none) area_is is)
 
-        opens_with : (entries : List Entry) → LogIs area entries image → OpensWith spelling m.version entries image
-        opens_with entries spelled = record {
+        opens_with : (changes : List Change) → LogIs area changes image → OpensWith spelling m.version changes image
+        opens_with changes spelled = record {
           version_is = in_use_is;
           tables = all_of_rows;
           ranges = ranges_of_rows ∙ none;
@@ -115,21 +112,21 @@ module _ (spelling : Spelling) (first : Bytes → Fault) (image : Image) where
         }
 
         -- and its log is replayed: the store of all these
-        pub opened_as : (store : StoreValue) (p : Position) (entries : List Entry) → store ≡ record { stopped = false; manifest = m; tables = ts; job = None; log = p; memory = store.memory; buffer = store.buffer; blocks = none_cached }
-            → LogIs area entries image → p.filled ≡ filled entries → store.memory.entries ≡ newest_entries entries → IsOpenedAs spelling image store
-        opened_as store p entries same spelled filled_is memory_is =
+        pub opened_as : (store : StoreValue) (p : Position) (changes : List Change) → store ≡ record { stopped = false; manifest = m; tables = ts; job = None; log = p; memory = store.memory; buffer = store.buffer; blocks = none_cached }
+            → LogIs area changes image → p.filled ≡ filled_by changes → source_in store.memory ≡ source_of changes → IsOpenedAs spelling image store
+        opened_as store p changes same spelled filled_is memory_is =
             subst (IsOpenedAs spelling image) (sym same)
-            (record { loaded = loaded; entries = entries; opens = opens_with entries spelled; rows = rows; tables = opened; job = refl; log = filled_is; memory = memory_is; none_kept = refl })
+            (record { loaded = loaded; changes = changes; opens = opens_with changes spelled; rows = rows; tables = opened; job = refl; log = filled_is; memory = memory_is; none_kept = refl })
 
 -- what is made of these parts: the store, or there is no memory
-pub parts_answer : (spelling : Spelling) (first : Bytes → Fault) (image : Image) (m : Manifest) (ts : List Opened) (p : Position) (entries : List Entry) (area : ℕ) (r : Result StoreValue StoreError)
-    → IsVersionOpened spelling image m ts → m.version.log_page ≡ log_page_of area → LogIs area entries image → p.filled ≡ filled entries
+pub parts_answer : (spelling : Spelling) (first : Bytes → Fault) (image : Image) (m : Manifest) (ts : List Opened) (p : Position) (changes : List Change) (area : ℕ) (r : Result StoreValue StoreError)
+    → IsVersionOpened spelling image m ts → m.version.log_page ≡ log_page_of area → LogIs area changes image → p.filled ≡ filled_by changes
     → IfOk r (λ store. store ≡ record { stopped = false; manifest = m; tables = ts; job = None; log = p; memory = store.memory; buffer = store.buffer; blocks = none_cached })
-    → IfOk r (λ store. store.memory.entries ≡ newest_entries entries) → IfErr r (λ why. why ≡ error.Memory)
+    → IfOk r (λ store. source_in store.memory ≡ source_of changes) → IfErr r (λ why. why ≡ error.Memory)
     → MatchResult r (IsOpenedAs spelling image) (IsOpenAnswer spelling first image)
-parts_answer spelling first image m ts p entries area (Ok store) found area_is spelled filled_is same memory_is wanted =
-    opened_as spelling first image m found.loaded ts found.rows found.tables found.ranges area area_is store p entries same spelled filled_is memory_is
-parts_answer spelling first image m ts p entries area (Err why) found area_is spelled filled_is same memory_is wanted = subst (IsOpenAnswer spelling first image) (sym wanted) tt
+parts_answer spelling first image m ts p changes area (Ok store) found area_is spelled filled_is same memory_is wanted =
+    opened_as spelling first image m found.loaded ts found.rows found.tables found.ranges area area_is store p changes same spelled filled_is memory_is
+parts_answer spelling first image m ts p changes area (Err why) found area_is spelled filled_is same memory_is wanted = subst (IsOpenAnswer spelling first image) (sym wanted) tt
 
 -- ---- the same, of what is as it was
 
@@ -186,14 +183,13 @@ module _ (spelling : Spelling) (filter_bytes : FilterBytes) (one : SpellsOne spe
   named_so : IsNamedBy spelling v s image
   named_so = named spelling one s image is store.manifest opened.loaded
 
-  same_log : opened.entries ≡ entries_in s
+  same_log : opened.changes ≡ s.log
   same_log =
       let area : named_so.area ≡ opened.opens.area = omega (arith, named_so.area_is, opened.opens.area_is) in
-      one_list opened.entries (entries_in s) (area_in opened.opens.area image) opened.opens.log
-      (subst (λ (n : ℕ). LogIs n (entries_in s) image) area (named_log spelling v s image named_so))
+      one_list opened.changes s.log (area_in opened.opens.area image) opened.opens.log (subst (λ (n : ℕ). LogIs n s.log image) area named_so.log)
 
-  newest_are : newest_entries (entries_in s) ≡ memory s
-  newest_are = sym (ap (λ (source : Source). source.entries) (memory_alone s (entries_in s) (named_only spelling v s image named_so)))
+  same_memory : source_in store.memory ≡ in_memory s
+  same_memory = opened.memory ∙ ap source_of same_log
 
   under : RepresentsOn spelling store.manifest store.tables store.job s image
   under = record {
@@ -214,20 +210,22 @@ module _ (spelling : Spelling) (filter_bytes : FilterBytes) (one : SpellsOne spe
     none_kept = named_so.none_kept;
     images = reads_keep (RepresentsOn spelling store.manifest store.tables store.job s) n a b reads
         (λ left_image left. subst (RepresentsOn spelling store.manifest store.tables store.job s) (sym (durable left_image left ∙ held_is)) under);
-    log = opened.log ∙ ap filled same_log;
-    memory = opened.memory ∙ ap newest_entries same_log ∙ newest_are;
+    log = opened.log ∙ ap filled_by same_log;
+    memory = ap (λ (source : Source). source.entries) same_memory;
+    ranges = ap (λ (source : Source). source.ranges) same_memory;
     blocks = subst (λ (b : Cached). CacheAgrees b store.tables s.tables) (sym opened.none_kept) (none_true store.tables s.tables);
   }
 
   pub log_of : store.log.filled ≡ filled_by s.log
-  log_of = opened.log ∙ ap filled same_log
+  log_of = opened.log ∙ ap filled_by same_log
 
   -- and the image shows it as that
   pub read_of : ReadsAs spelling filter_bytes store s image
   read_of = record {
     sound = state_sound spelling filter_bytes s image is;
     under = under;
-    memory = opened.memory ∙ ap newest_entries same_log ∙ newest_are;
+    memory = ap (λ (source : Source). source.entries) same_memory;
+    ranges = ap (λ (source : Source). source.ranges) same_memory;
   }
 
 -- where its log ends, of such an image

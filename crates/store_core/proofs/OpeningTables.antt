@@ -16,6 +16,7 @@ use Rattle.map_model.specs.SortedMap.{Bytes}
 use Rattle.block_model.specs.Index.{Index, IndexRow}
 use Rattle.block_model.specs.IndexReading.{index_fault}
 use Rattle.block_model.specs.Places.{byte_of_page, index_page}
+use Rattle.table_model.proofs.OneTable.{one_table}
 use Rattle.table_model.specs.Damage.{filter_part, index_damage, index_part}
 use Rattle.table_model.specs.Tables.{Table}
 use Rattle.table_file.specs.Faults.{IsDamagedTable, filter_fault_of}
@@ -129,10 +130,11 @@ pub held_of : (spelling : Spelling) (image : Image) → SpellsOne spelling → (
 held_of spelling image one [] [] opened are = tt
 held_of spelling image one [] (t ∷ tables) opened are = elim are [ ]
 held_of spelling image one (o ∷ ts) [] opened are = elim are [ ]
-held_of spelling image one (o ∷ ts) (t ∷ tables) opened are = (
-  record { blocks = are.0.0; stands = opened_stands spelling o are.0.0 image one opened.0 are.0.1; table_is = are.0.2 },
-  held_of spelling image one ts tables opened.1 are.1,
-)
+held_of spelling image one (o ∷ ts) (t ∷ tables) opened are =
+    let stands = opened_stands spelling o are.0.0 image one opened.0 are.0.1 in (
+      record { blocks = are.0.0; stands = stands; table_is = one_table spelling o.row t _ image are.0 (are.0.0, stands.at, refl) },
+      held_of spelling image one ts tables opened.1 are.1,
+    )
 
 pub as_many : (spelling : Spelling) (image : Image) (rows : List Row) (tables : List Table) → AreTablesOf spelling rows tables image → length rows ≡ length tables
 as_many spelling image [] [] are = refl

@@ -5,9 +5,8 @@ use Rattle.std.specs.Borrow.{Bor}
 use Rattle.std.specs.List.{AllByRecursion, list_any}
 use Rattle.block_model.specs.Block.{IsTable}
 use Rattle.block_model.specs.Order.{is_any}
-use Rattle.entry_model.proofs.Newest.{newest_more}
 use Rattle.entry_model.specs.Entries.{Entry, IsEntry, put_entry}
-use Rattle.entry_model.specs.Newest.{KeysRise, newest_entries, with_entry}
+use Rattle.entry_model.specs.Newest.{KeysRise, with_entry}
 use Rattle.extent_model.proofs.Free.{gap_is_free}
 use Rattle.extent_model.proofs.Lists.{all_pairs, pairs_of}
 use Rattle.extent_model.specs.Extents.{AreApart}
@@ -17,10 +16,10 @@ use Rattle.key_base.specs.Limits.{last_epoch}
 use Rattle.map_model.proofs.Maps.{by_order}
 use Rattle.map_model.specs.SortedMap.{Bytes, in_place}
 use Rattle.state_model.proofs.Places.{table_is_sound}
-use Rattle.state_model.proofs.Sayings.{alone_is, newest_entries_rise, rises_follow}
+use Rattle.state_model.proofs.Sayings.{alone_is, rises_follow, source_sound}
 use Rattle.state_model.proofs.SoundChanges.{next_epoch}
-use Rattle.state_model.proofs.SoundLogs.{filled_none, logged_entries, newest_all}
-use Rattle.range_model.specs.Sources.{Source, alone}
+use Rattle.state_model.proofs.SoundLogs.{changes_entries, filled_none, logged_changes, over_is_table}
+use Rattle.range_model.specs.Sources.{Sets, Source, alone, source_of}
 use Rattle.state_model.specs.Merges.{Plan, cut_for, lasting_of, merged_of, on_level, planned}
 use Rattle.state_model.specs.Sound.{AreMade, IsJob, IsSound, MayRun, StandsBefore, plan_of_job}
 use Rattle.state_model.specs.State.{Job, State}
@@ -30,7 +29,7 @@ use Rattle.table_model.specs.Tables.{FilterBytes, Table, table_of, table_pages}
 use Rattle.store_core.specs.Flushing.{DiffersInLog, entries_with, over_of, state_with}
 use Rattle.store_core.specs.StoreValue.{IsConsistent, StoreValue}
 use Rattle.store_core.proofs.Flushes.{first_of_all, some_pages}
-use Rattle.store_core.proofs.Recorded.{entries_in, no_range_with, one_more_made, over_table}
+use Rattle.store_core.proofs.Recorded.{entries_in, no_range_with, one_more_made}
 use Rattle.store_core.proofs.Wholes.{memory_table}
 use Rattle.state_model.specs.WithoutRanges.{HasOnlyEntries}
 
@@ -64,18 +63,22 @@ some_length (e ∷ more) some = omega arith
 
 module _ (store : StoreValue) (whole : IsConsistent store) where
   pub memory_rises : KeysRise store.memory.entries
-  memory_rises = subst KeysRise (sym whole.entries.memory_is) (newest_entries_rise whole.entries.entries)
+  memory_rises = subst (λ (source : Source). KeysRise source.entries) (sym whole.changes.memory_is) (source_sound whole.changes.changes).rises
 
   pub memory_each : AllByRecursion IsEntry store.memory.entries
-  memory_each = subst (AllByRecursion IsEntry) (sym whole.entries.memory_is) (newest_all IsEntry whole.entries.entries (logged_entries whole.entries.entries whole.entries.sound))
+  memory_each =
+      subst (λ (source : Source). AllByRecursion IsEntry source.entries) (sym whole.changes.memory_is)
+      (changes_entries whole.changes.changes (logged_changes whole.changes.changes whole.changes.sound))
 
   -- they are a table
   pub flushed_table : (over : Option Entry) → IfSome over IsEntry → entries_with store.memory.entries over ≢ [] → IsTable (entries_with store.memory.entries over)
   flushed_table None is some = memory_table store whole some
   flushed_table (Some e) is some =
-      let of = whole.entries in
-      let same : newest_entries (of.entries ++ e ∷ []) ≡ with_entry store.memory.entries e = newest_more of.entries e ∙ ap (λ (es : List Entry). with_entry es e) (sym of.memory_is) in
-      subst IsTable same (over_table of.entries e of.sound is of.fits (subst (λ (es : List Entry). 1 ≤ length es) (sym same) (some_length (with_entry store.memory.entries e) some)))
+      let of = whole.changes in
+      let same : (source_of (of.changes ++ Sets e ∷ [])).entries ≡ with_entry store.memory.entries e =
+      one_more_made of.changes e ∙ ap (λ (source : Source). with_entry source.entries e) (sym of.memory_is) in
+      subst IsTable same
+      (over_is_table of.changes (Sets e) of.sound is of.fits (subst (λ (es : List Entry). 1 ≤ length es) (sym same) (some_length (with_entry store.memory.entries e) some))).entries
 
 -- ---- a table more, in front of all
 

@@ -19,7 +19,7 @@ small_need e is = omega (arith, body_size e, is.sound.short_key, is.short)
 
 module _ (store : StoreValue) (whole : IsConsistent store) where
   within : store.log.filled ≤ 262144
-  within = omega (arith, whole.entries.filled_is, whole.entries.fits)
+  within = omega (arith, whole.changes.filled_is, whole.changes.fits)
 
   -- after those of the log
   pub record_left : (n : ℕ) → store.log.filled + n ≤ 262144 → (a b : World) → WriteMoves (start_of store.log.area + store.log.filled) n a b → LeavesPlaces (IsInUse store.manifest store.log.filled) a b

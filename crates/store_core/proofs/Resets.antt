@@ -162,6 +162,7 @@ module _ (spelling : Spelling) (bytes : FilterBytes) (store : StoreValue) (s : S
       images = reads_keep Under 0 a b reads tied.images;
       log = tied.log;
       memory = tied.memory;
+      ranges = tied.ranges;
       blocks = tied.blocks;
     });
   }
@@ -211,6 +212,7 @@ module _ (spelling : Spelling) (bytes : FilterBytes) (store : StoreValue) (s : S
                 images = all.after tied.images;
                 log = tied.log;
                 memory = tied.memory;
+                ranges = tied.ranges;
                 blocks = tied.blocks;
               }));
           refused = tt;

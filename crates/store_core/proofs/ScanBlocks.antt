@@ -9,7 +9,7 @@ use Rattle.merge_rows.specs.Merges.{TableWalk, numbered, row_count, walk_at}
 use Rattle.merge_rows.specs.Reads.{blocks_left, blocks_left_in}
 use Rattle.store_core.proofs.ScanMade.{made_scan}
 use Rattle.store_core.proofs.ScanStates.{numbered_at}
-use Rattle.store_core.specs.Scans.{ScanWalk, admits_keys, blocks_admitting, blocks_to_come, numbers_admitting, walks_between}
+use Rattle.store_core.specs.Scans.{ScanWalk, admits_keys, blocks_admitting, blocks_to_come, keys_admitting, numbers_admitting, walks_between}
 use Rattle.table_file.specs.Opened.{Opened}
 
 module _ (low : Bytes) (high : Option Bytes) where
@@ -41,12 +41,12 @@ module _ (low : Bytes) (high : Option Bytes) where
           )
       by_test rest false = rest
 
--- a scan that is made has those of the tables whose filter admits its bounds
+-- a scan that is made has those of the tables that may have a key between its bounds
 pub made_blocks : (low : Bytes) (high : Option Bytes) (tables : List Opened) (entries : List Entry) (scan : ScanWalk) (most : Option ℕ) → scan ≡ made_scan low high tables entries most
     → blocks_to_come scan ≤ blocks_admitting low high tables
 made_blocks low high tables entries scan most is = subst (λ (w : ScanWalk). blocks_to_come w ≤ blocks_admitting low high tables) (sym is) (left_behind low high [] tables)
 
 -- and its walks begin at its lower bound
 pub made_walks : (low : Bytes) (high : Option Bytes) (tables : List Opened) (entries : List Entry) (scan : ScanWalk) (most : Option ℕ) → scan ≡ made_scan low high tables entries most
-    → (scan.high ≡ high) × (scan.merge.walks ≡ walks_between low high tables)
-made_walks low high tables entries scan most is = subst (λ (w : ScanWalk). (w.high ≡ high) × (w.merge.walks ≡ walks_between low high tables)) (sym is) (refl, refl)
+    → (scan.high ≡ high) × (scan.merge.walks ≡ walks_between low high tables) × (scan.asleep ≡ keys_admitting low high tables)
+made_walks low high tables entries scan most is = subst (λ (w : ScanWalk). (w.high ≡ high) × (w.merge.walks ≡ walks_between low high tables) × (w.asleep ≡ keys_admitting low high tables)) (sym is) (refl, refl, refl)

@@ -6,9 +6,12 @@ use Rattle.std.proofs.lemmas.Bool.{false≢true}
 use Rattle.disk_trait.proofs.Calls.{reads_then}
 use Rattle.disk_trait.specs.Image.{Image}
 use Rattle.disk_trait.specs.World.{World}
-use Rattle.merge_rows.specs.Merges.{Merge, TableWalk}
+use Rattle.late_rows.specs.Going.{IsLatePaced}
+use Rattle.late_rows.specs.Late.{LateMerge}
+use Rattle.late_rows.specs.Opening.{IsLateFault, IsLateStep, OpensLate}
+use Rattle.merge_rows.specs.Merges.{TableWalk}
 use Rattle.merge_rows.specs.Reads.{OnlyReads, SomeBlock}
-use Rattle.merge_rows.specs.Steps.{IsFaultStep, IsPaced, IsRowStep, SourcesStay, number_of_walk, numbers}
+use Rattle.merge_rows.specs.Steps.{number_of_walk, numbers}
 use Rattle.block_model.specs.Places.{byte_of_page}
 use Rattle.disk_trait.specs.declared.fault.DiskFault.{DiskFault}
 use Rattle.entry_model.specs.Entries.{Entry}
@@ -44,18 +47,18 @@ reads_on a b c first second = (first.0 + second.0, reads_then first.0 second.0 a
 
 -- ---- by the image before those reads
 
-module _ (tells : Bool) (tables : List Opened) (f h : Image) (same : f ≡ h) (a b : Merge) where
-  pub kept_at : SourcesStay tells tables f a b → SourcesStay tells tables h a b
-  kept_at is = subst (λ (i : Image). SourcesStay tells tables i a b) same is
+module _ (tells : Bool) (tables : List Opened) (f h : Image) (same : f ≡ h) (a b : LateMerge) where
+  pub opens_at : OpensLate tells tables f a b → OpensLate tells tables h a b
+  opens_at is = subst (λ (i : Image). OpensLate tells tables i a b) same is
 
-  pub step_at : IsRowStep tells tables f a b → IsRowStep tells tables h a b
-  step_at is = subst (λ (i : Image). IsRowStep tells tables i a b) same is
+  pub step_at : IsLateStep tells tables f a b → IsLateStep tells tables h a b
+  step_at is = subst (λ (i : Image). IsLateStep tells tables i a b) same is
 
-  pub fault_at : IsFaultStep tells tables f a b → IsFaultStep tells tables h a b
-  fault_at is = subst (λ (i : Image). IsFaultStep tells tables i a b) same is
+  pub fault_at : IsLateFault tells tables f a b → IsLateFault tells tables h a b
+  fault_at is = subst (λ (i : Image). IsLateFault tells tables i a b) same is
 
-  pub paced_at : IsPaced tables f a b → IsPaced tables h a b
-  paced_at is = subst (λ (i : Image). IsPaced tables i a b) same is
+  pub paced_at : IsLatePaced tables f a b → IsLatePaced tables h a b
+  paced_at is = subst (λ (i : Image). IsLatePaced tables i a b) same is
 
 -- as many walks as numbers
 pub as_many_walks : (a b : List TableWalk) → numbers a ≡ numbers b → length a ≡ length b

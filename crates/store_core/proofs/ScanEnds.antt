@@ -7,12 +7,15 @@ use Rattle.disk_trait.specs.Image.{Image}
 use Rattle.entry_model.specs.Entries.{Entry}
 use Rattle.map_model.specs.Slices.{is_before, is_up_to}
 use Rattle.map_model.specs.SortedMap.{Bytes}
+use Rattle.late_rows.specs.Late.{IsNext, waking_at}
+use Rattle.late_rows.specs.Opening.{SleepAbove}
+use Rattle.merge_rows.proofs.Keys.{before_of, before_then, is_before_of}
 use Rattle.merge_rows.proofs.SoundPasses.{pass_then}
 use Rattle.merge_rows.specs.Choosing.{IsHeadFrom}
 use Rattle.merge_rows.specs.Merges.{TableWalk}
 use Rattle.merge_rows.specs.Reads.{AreAtEnd, HaveReadAll, PassSound}
 use Rattle.store_core.proofs.ScanPairs.{from_then_after}
-use Rattle.store_core.specs.Scans.{AreDoneUpTo, is_ended}
+use Rattle.store_core.specs.Scans.{AreDoneUpTo, AreUpTo, is_ended}
 use Rattle.table_file.specs.Opened.{Opened}
 
 -- ---- the end
@@ -45,6 +48,21 @@ bound_done high tables walks now row some above read least =
     all_done : (walks : List TableWalk) → HaveReadAll tables walks → AllByRecursion (λ (w : TableWalk). IsHeadFrom row.key w.walk.now) walks → AreDoneUpTo high tables walks
     all_done [] read from = tt
     all_done (w ∷ more) read from = (record { above = from_above high row.key w.walk.now above from.0; whole = read.0 }, all_done more read.1 from.1)
+
+-- and then none sleeps: its key would be above the row's, and so above the bound
+pub none_sleeps : (high : Option Bytes) (asleep : List (Option Bytes)) (key : Bytes) → is_up_to high key ≡ false → AreUpTo high asleep → SleepAbove key asleep → IsNext asleep None
+none_sleeps high asleep key over up_to above = λ at. by_key at (waking_at asleep at) refl
+  where
+    before_too : (a b c : Bytes) → is_before a b ≡ true → is_before b c ≡ true → is_before a c ≡ true
+    before_too a b c one two = is_before_of a c (before_then a b c (before_of a b one) (before_of b c two))
+
+    no_key : (high : Option Bytes) (other : Bytes) → is_up_to high key ≡ false → is_up_to high other ≡ true → is_before key other ≡ true → ⊥
+    no_key None other over up less = false≢true (sym over)
+    no_key (Some hi) other over up less = false≢true (sym (ap not (before_too hi key other (not_false (is_before hi key) over) less)) ∙ up)
+
+    by_key : (at : ℕ) (o : Option Bytes) → waking_at asleep at ≡ o → o ≡ None
+    by_key at None is = refl
+    by_key at (Some other) is = absurd (no_key high other over (up_to at other is) (is_before_of key other (above at other is)))
 
 -- ---- what was passed
 

@@ -1,14 +1,15 @@
 -- A merge that goes on: above a floor, to which its rows had come, the same is left of each walk.
 use Rattle.std.proofs.Common.{◌≡◌, ◌∙◌, Bool, true, false, cond, List, [], ◌∷◌, map, refl, sym, ap, subst}
-use Rattle.std.specs.Prelude.{Option, Some, None}
 use Rattle.std.proofs.lemmas.Bool.{false≢true}
 use Rattle.disk_trait.specs.Image.{Image}
 use Rattle.entry_model.specs.Entries.{Entry}
+use Rattle.late_rows.specs.Going.{IsLatePaced}
+use Rattle.late_rows.specs.Late.{LateMerge}
 use Rattle.merge_rows.proofs.RowSteps.{rises_on}
 use Rattle.merge_rows.proofs.Steps.{rises_same, rises_then}
 use Rattle.merge_rows.specs.Merges.{Merge, TableWalk, left_above, walk_left}
 use Rattle.merge_rows.specs.Rows.{KeyFloor, above_floor, clears}
-use Rattle.merge_rows.specs.Steps.{AreCaughtUp, AreHeadsClear, FloorRises, IsCaughtUp, IsHeadClear, IsPaced, RowPasses}
+use Rattle.merge_rows.specs.Steps.{FloorRises, RowPasses}
 use Rattle.store_core.specs.Scans.{GoesOn, HasGivenAll, IsScanDone, ScanWalk, StepsOn}
 use Rattle.table_file.specs.Opened.{Opened}
 
@@ -55,23 +56,14 @@ module _ (tables : List Opened) (image : Image) where
   unfolding goes_then
   steps_then a b c one two = record { on = goes_then a b c one two.on; clear = two.clear }
 
--- an entry that is at hand, where a walk has caught up, is above the floor
-head_clear : (floor : KeyFloor) (now : Option Entry) (left : List Entry) → IsCaughtUp floor now left → IsHeadClear floor now
-head_clear floor None left caught = tt
-head_clear floor (Some e) left caught = caught
-
-heads_clear : (floor : KeyFloor) (tables : List Opened) (image : Image) (walks : List TableWalk) → AreCaughtUp floor tables image walks → AreHeadsClear floor walks
-heads_clear floor tables image [] caught = tt
-heads_clear floor tables image (w ∷ more) caught = (head_clear floor w.walk.now (walk_left tables image w) caught.0, heads_clear floor tables image more caught.1)
-
 -- a step after others, as it is said of the device at that time
-pub next_steps : (tables : List Opened) (here image : Image) (first mid new : Merge) → here ≡ image → GoesOn tables image first mid → IsPaced tables here mid new → RowPasses new.now mid.floor new.floor
-    → StepsOn tables image first new
+pub next_steps : (tables : List Opened) (here image : Image) (first : Merge) (mid new : LateMerge) → here ≡ image → GoesOn tables image first mid.merge → IsLatePaced tables here mid new
+    → RowPasses new.merge.now mid.merge.floor new.merge.floor → StepsOn tables image first new.merge
 next_steps tables here image first mid new same on paced passes =
-    let there = subst (λ (i : Image). IsPaced tables i mid new) same paced in
-    steps_then tables image first mid new on (record {
-      on = record { floor = mid.floor; rises = rises_same mid.floor; onward = rises_on new.now mid.floor new.floor passes; same = there.same };
-      clear = heads_clear mid.floor tables image new.walks there.caught_up;
+    let there = subst (λ (i : Image). IsLatePaced tables i mid new) same paced in
+    steps_then tables image first mid.merge new.merge on (record {
+      on = record { floor = mid.merge.floor; rises = rises_same mid.merge.floor; onward = rises_on new.merge.now mid.merge.floor new.merge.floor passes; same = there.same };
+      clear = there.clear;
     })
 
 -- a step of a scan after others, as it is said of the device and of the tables at that time

@@ -1,6 +1,6 @@
 -- What the walks of a merge owe, from one row to the next.
 use Rattle.std.proofs.Common.{◌≡◌, ◌∙◌, ◌≤◌, ◌<◌, ◌+◌, ℕ, zero, suc, Bool, true, false, cond, not, ◌&&◌, List, [], ◌∷◌, ◌++◌, length, drop, map, refl, sym, ap, subst, arith}
-use Rattle.std.specs.Prelude.{Option, Some, None, ◌==◌, IfSome, count_by, nat_lt, slice_index_or, sum_by}
+use Rattle.std.specs.Prelude.{Option, Some, None, ◌==◌, IfSome, count_by, get_or, nat_lt, slice_index_or, sum_by}
 use Rattle.std.specs.List.{AllByRecursion}
 use Rattle.std.proofs.lemmas.Bool.{false≢true, ltb-true}
 use Rattle.std.proofs.lemmas.List.Sums.{sum_by-cons}
@@ -9,15 +9,19 @@ use Rattle.block_model.specs.Laws.{joined}
 use Rattle.disk_trait.specs.Image.{Image}
 use Rattle.entry_model.specs.Entries.{Entry}
 use Rattle.key_base.specs.ByteOrder.{IsBefore, is_before}
+use Rattle.late_rows.specs.Going.{AwakeCaughtUp, IsLatePaced}
+use Rattle.late_rows.specs.Late.{AreFrom, IsSoundLate, LateMerge, awake_of, waking_at, walk_in, wanted_awake}
+use Rattle.late_rows.specs.Opening.{SleepAbove, SleepOn}
 use Rattle.map_model.specs.SortedMap.{Bytes}
 use Rattle.merge_rows.proofs.Keys.{at_or_after, is_before_of, not_before_itself}
 use Rattle.merge_rows.proofs.Steps.{all_blocks, rises_passed}
 use Rattle.merge_rows.specs.Choosing.{IsHeadFrom}
-use Rattle.merge_rows.specs.Merges.{Merge, TableWalk, blocks_in, left_above, numbered, row_count, walk_left, with_hand}
-use Rattle.merge_rows.specs.Reads.{is_used_up, ones, wanted, wanted_by, wanted_block_of}
+use Rattle.merge_rows.specs.Merges.{TableWalk, blocks_in, left_above, numbered, row_count, walk_left, with_hand}
+use Rattle.merge_rows.specs.Reads.{is_used_up, ones, wanted_block_of}
 use Rattle.merge_rows.specs.Rows.{KeyFloor, above_floor, clears}
-use Rattle.merge_rows.specs.Steps.{AreCaughtUp, AreSoundWalks, FloorRises, IsCaughtUp, IsPaced, IsSoundMerge, IsSoundWalk, passed_at}
-use Rattle.store_core.specs.Scans.{all_owed, owed}
+use Rattle.merge_rows.specs.Steps.{AreSoundWalks, FloorRises, IsCaughtUp, IsLeastRow, IsSoundWalk, passed_at}
+use Rattle.store_core.proofs.ScanPairs.{from_then_after}
+use Rattle.store_core.specs.Scans.{all_owed, owed, wakes_up_to, woken_up_to}
 use Rattle.table_file.specs.Opened.{Opened}
 use Rattle.table_file.specs.Walks.{BeginsWell, CursorWalk, is_due, joined_from, to_come}
 
@@ -90,6 +94,45 @@ none_left walk blocks rows many begins none = by_due (is_due walk rows) refl
         let first : kept_from walk.bound (slice_index_or blocks walk.block []) ++ joined (drop (suc walk.block) blocks) ≡ [] = sym (ap (joined_from walk.bound) (drop_first walk.block blocks less)) ∙ left in
         absurd (omega (arith, begins less, no_first (kept_from walk.bound (slice_index_or blocks walk.block [])) _ first))
 
+-- ---- walks that are awake, by the first of them
+
+-- a number, unless the walk sleeps
+abbrev unless_asleep : Option Bytes → ℕ → ℕ
+unless_asleep None n = n
+unless_asleep (Some key) n = 0
+
+waking_rest : (asleep : List (Option Bytes)) (at : ℕ) → waking_at (drop 1 asleep) at ≡ waking_at asleep (suc at)
+waking_rest [] at = refl
+waking_rest (o ∷ asleep) at = refl
+
+either_less : (b : Bool) (m n : ℕ) → m ≤ n → cond b m 0 ≤ cond b n 0
+either_less true m n less = less
+either_less false m n less = omega arith
+
+module _ (f : TableWalk → ℕ) where
+  none_awake : (asleep : List (Option Bytes)) → sum_by f (awake_of asleep []) ≡ 0
+  none_awake [] = refl
+  none_awake (o ∷ asleep) = refl
+
+  pub none_woken : (looks : Option Bytes) (asleep : List (Option Bytes)) → sum_by f (woken_up_to looks asleep []) ≡ 0
+  none_woken looks [] = refl
+  none_woken looks (o ∷ asleep) = refl
+
+  first_awake : (asleep : List (Option Bytes)) (w : TableWalk) (walks : List TableWalk)
+      → sum_by f (awake_of asleep (w ∷ walks)) ≡ unless_asleep (waking_at asleep 0) (f w) + sum_by f (awake_of (drop 1 asleep) walks)
+  first_awake [] w walks = sum_by-cons f w walks
+  first_awake (None ∷ asleep) w walks = sum_by-cons f w (awake_of asleep walks)
+  first_awake (Some key ∷ asleep) w walks = omega arith
+
+  first_woken : (looks : Option Bytes) (asleep : List (Option Bytes)) (w : TableWalk) (walks : List TableWalk)
+      → sum_by f (woken_up_to looks asleep (w ∷ walks)) ≡ cond (wakes_up_to looks (waking_at asleep 0)) (f w) 0 + sum_by f (woken_up_to looks (drop 1 asleep) walks)
+  first_woken looks [] w walks = sum_by-cons f w walks
+  first_woken looks (o ∷ asleep) w walks = elim (wakes_up_to looks o) as (λ b.
+      sum_by f (cond b (w ∷ woken_up_to looks asleep walks) (woken_up_to looks asleep walks)) ≡ cond b (f w) 0 + sum_by f (woken_up_to looks asleep walks)) [
+        | true ↦ sum_by-cons f w (woken_up_to looks asleep walks)
+        | false ↦ omega arith
+      ]
+
 module _ (below : Bytes → Bool) (tables : List Opened) (image : Image) where
   many_rows : (number : ℕ) (found : Option Opened) → row_count found ≡ length (blocks_in found image)
   many_rows number None = refl
@@ -145,40 +188,144 @@ module _ (below : Bytes → Bool) (tables : List Opened) (image : Image) where
         → owed below new tables image w ≤ count_by (λ (e : Entry). below e.key) (left_above old tables image w)
     owed_walk w ready from sound = omega (arith, owed_head w w.walk.now ready from sound.begins, counted_cut below old (walk_left tables image w))
 
-    owed_walks : (walks : List TableWalk) → AreCaughtUp old tables image walks → AllByRecursion (λ (w : TableWalk). IsHeadFrom low w.walk.now) walks → AreSoundWalks new tables image walks
-        → sum_by (owed below new tables image) walks ≤ sum_by (λ (l : List Entry). count_by (λ (e : Entry). below e.key) l) (map (left_above old tables image) walks)
-    owed_walks [] ready from sound = omega arith
-    owed_walks (w ∷ walks) ready from sound =
+    -- a sleeper's entries come after the row, so nothing is used up
+    owed_clear : (w : TableWalk) (now : Option Entry) → IfSome now (λ (e : Entry). is_before low e.key ≡ true) → ones (is_used_up new now && due_of w) ≤ ones (is_used_up old now && due_of w)
+    owed_clear w None after = omega arith
+    owed_clear w (Some e) after =
+        let none : ones (not (clears new e.key) && due_of w) ≡ 0 = ap (λ (b : Bool). ones (not b && due_of w)) (clears_new e.key ∙ after) in
+        omega (arith, none)
+
+    sleep_walk : (w v : TableWalk) → v ≡ w → IfSome w.walk.now (λ (e : Entry). is_before low e.key ≡ true) → owed below new tables image v ≤ owed below old tables image w
+    sleep_walk w v same after =
+        let here = ap (owed below new tables image) same in
+        omega (arith, here, owed_clear w w.walk.now after, counted_fewer below old new rises (walk_left tables image w))
+
+    -- what is read for the next row of a walk that is awake is owed no more
+    pay_walk : (w v : TableWalk) → left_above old tables image v ≡ left_above old tables image w → IsCaughtUp old v.walk.now (walk_left tables image v) → IsHeadFrom low v.walk.now
+        → IsSoundWalk new v.walk (blocks_in (numbered tables v.number) image) → wanted_block_of old tables w + owed below new tables image v ≤ owed below old tables image w
+    pay_walk w v same ready from sound =
+        omega (arith, owed_walk v ready from sound, ap (λ (l : List Entry). count_by (λ (e : Entry). below e.key) l) same, counted_cut below old (walk_left tables image w))
+
+    -- who is awake was so, or its key is up to where the step looks; the others stand where they stood, and their entries come after the row
+    pub record IsPaidFor (looks : Option Bytes) (before after : List (Option Bytes)) (ws vs : List TableWalk) : Type 0 where
+      pub woken : (at : ℕ) → waking_at after at ≡ None → wakes_up_to looks (waking_at before at) ≡ true
+      pub slept : (at : ℕ) (key : Bytes) → waking_at after at ≡ Some key → waking_at before at ≡ Some key
+      pub stood : (at : ℕ) (key : Bytes) → waking_at after at ≡ Some key → walk_in vs at ≡ walk_in ws at
+      pub later : (at : ℕ) (key : Bytes) → waking_at after at ≡ Some key → IfSome (walk_in ws at).walk.now (λ (e : Entry). is_before low e.key ≡ true)
+      pub ready : AwakeCaughtUp old tables image after vs
+      pub same : map (left_above old tables image) vs ≡ map (left_above old tables image) ws
+      pub from : AllByRecursion (λ (v : TableWalk). IsHeadFrom low v.walk.now) vs
+      pub sound : AreSoundWalks new tables image vs
+
+    no_walks : {X : Type 0} (f : TableWalk → X) (w : TableWalk) (ws : List TableWalk) → map f (w ∷ ws) ≡ map f [] → ⊥
+    no_walks f w ws is = let none : length (map f (w ∷ ws)) ≡ 0 = ap (λ l. length l) is in omega (arith, none)
+
+    first_left : (v w : TableWalk) (vs ws : List TableWalk) → map (left_above old tables image) (v ∷ vs) ≡ map (left_above old tables image) (w ∷ ws) → left_above old tables image v ≡ left_above old tables image w
+    first_left v w vs ws is = ap (λ (l : List (List Entry)). get_or l 0 []) is
+
+    rest_left : (v w : TableWalk) (vs ws : List TableWalk) → map (left_above old tables image) (v ∷ vs) ≡ map (left_above old tables image) (w ∷ ws) → map (left_above old tables image) vs ≡ map (left_above old tables image) ws
+    rest_left v w vs ws is = ap (drop 1) is
+
+    paid_rest : (looks : Option Bytes) (before after : List (Option Bytes)) (w v : TableWalk) (ws vs : List TableWalk) → IsPaidFor looks before after (w ∷ ws) (v ∷ vs) → IsPaidFor looks (drop 1 before) (drop 1 after) ws vs
+    paid_rest looks before after w v ws vs paid = record {
+      woken = λ at none. ap (wakes_up_to looks) (waking_rest before at) ∙ paid.woken (suc at) (sym (waking_rest after at) ∙ none);
+      slept = λ at key is. waking_rest before at ∙ paid.slept (suc at) key (sym (waking_rest after at) ∙ is);
+      stood = λ at key is. paid.stood (suc at) key (sym (waking_rest after at) ∙ is);
+      later = λ at key is. paid.later (suc at) key (sym (waking_rest after at) ∙ is);
+      ready = λ at lt none. paid.ready (suc at) (omega (arith, lt)) (sym (waking_rest after at) ∙ none);
+      same = rest_left v w vs ws paid.same;
+      from = paid.from.1;
+      sound = paid.sound.1;
+    }
+
+    paid_walks : (looks : Option Bytes) (before after : List (Option Bytes)) (ws vs : List TableWalk) → IsPaidFor looks before after ws vs
+        → wanted_awake old tables after ws + sum_by (owed below new tables image) (woken_up_to looks after vs) ≤ sum_by (owed below old tables image) (woken_up_to looks before ws)
+    paid_walks looks before after [] [] paid =
+        omega (arith, none_awake (wanted_block_of old tables) after, none_woken (owed below new tables image) looks after, none_woken (owed below old tables image) looks before)
+    paid_walks looks before after [] (v ∷ vs) paid = absurd (no_walks (left_above old tables image) v vs paid.same)
+    paid_walks looks before after (w ∷ ws) [] paid = absurd (no_walks (left_above old tables image) w ws (sym paid.same))
+    paid_walks looks before after (w ∷ ws) (v ∷ vs) paid =
+        let rest = paid_walks looks (drop 1 before) (drop 1 after) ws vs (paid_rest looks before after w v ws vs paid) in
+        let one = by_first (waking_at after 0) refl in
         omega (
           arith,
-          owed_walk w ready.0 from.0 sound.0,
-          owed_walks walks ready.1 from.1 sound.1,
-          sum_by-cons (owed below new tables image) w walks,
-          sum_by-cons (λ (l : List Entry). count_by (λ (e : Entry). below e.key) l) (left_above old tables image w) (map (left_above old tables image) walks),
+          rest,
+          one,
+          first_awake (wanted_block_of old tables) after w ws,
+          first_woken (owed below new tables image) looks after v vs,
+          first_woken (owed below old tables image) looks before w ws,
         )
+      where
+        by_first : (o : Option Bytes) → waking_at after 0 ≡ o
+            → unless_asleep (waking_at after 0) (wanted_block_of old tables w) + cond (wakes_up_to looks (waking_at after 0)) (owed below new tables image v) 0
+            ≤ cond (wakes_up_to looks (waking_at before 0)) (owed below old tables image w) 0
+        by_first None is =
+            let here = pay_walk w v (first_left v w vs ws paid.same) (paid.ready 0 (omega arith) is) paid.from.0 paid.sound.0 in
+            omega (
+              arith,
+              here,
+              ap (λ (o : Option Bytes). unless_asleep o (wanted_block_of old tables w)) is,
+              ap (λ (o : Option Bytes). cond (wakes_up_to looks o) (owed below new tables image v) 0) is,
+              ap (λ (b : Bool). cond b (owed below old tables image w) 0) (paid.woken 0 is),
+            )
+        by_first (Some key) is =
+            let here = sleep_walk w v (paid.stood 0 key is) (paid.later 0 key is) in
+            omega (
+              arith,
+              either_less (wakes_up_to looks (Some key)) (owed below new tables image v) (owed below old tables image w) here,
+              ap (λ (o : Option Bytes). unless_asleep o (wanted_block_of old tables w)) is,
+              ap (λ (o : Option Bytes). cond (wakes_up_to looks o) (owed below new tables image v) 0) is,
+              ap (λ (o : Option Bytes). cond (wakes_up_to looks o) (owed below old tables image w) 0) (paid.slept 0 key is),
+            )
 
-  -- what is owed is what the next row needs, and the entries
-  owed_parts : (floor : KeyFloor) (walks : List TableWalk)
-      → sum_by (owed below floor tables image) walks ≡ wanted_by floor tables walks + sum_by (λ (l : List Entry). count_by (λ (e : Entry). below e.key) l) (map (left_above floor tables image) walks)
-  owed_parts floor [] = refl
-  owed_parts floor (w ∷ walks) =
+  -- what a step wants of those who are awake is owed, whatever came of it
+  wanted_walks : (looks : Option Bytes) (floor : KeyFloor) (before after : List (Option Bytes)) → ((at : ℕ) → waking_at after at ≡ None → wakes_up_to looks (waking_at before at) ≡ true) → (ws : List TableWalk)
+      → wanted_awake floor tables after ws ≤ sum_by (owed below floor tables image) (woken_up_to looks before ws)
+  wanted_walks looks floor before after woken [] = omega (arith, none_awake (wanted_block_of floor tables) after)
+  wanted_walks looks floor before after woken (w ∷ ws) =
+      let rest = wanted_walks looks floor (drop 1 before) (drop 1 after) (λ at none. ap (wakes_up_to looks) (waking_rest before at) ∙ woken (suc at) (sym (waking_rest after at) ∙ none)) ws in
       omega (
         arith,
-        owed_parts floor walks,
-        counted_cut below floor (walk_left tables image w),
-        sum_by-cons (owed below floor tables image) w walks,
-        sum_by-cons (wanted_block_of floor tables) w walks,
-        sum_by-cons (λ (l : List Entry). count_by (λ (e : Entry). below e.key) l) (left_above floor tables image w) (map (left_above floor tables image) walks),
+        rest,
+        by_first (waking_at after 0) refl,
+        first_awake (wanted_block_of floor tables) after w ws,
+        first_woken (owed below floor tables image) looks before w ws,
       )
+    where
+      by_first : (o : Option Bytes) → waking_at after 0 ≡ o → unless_asleep (waking_at after 0) (wanted_block_of floor tables w) ≤ cond (wakes_up_to looks (waking_at before 0)) (owed below floor tables image w) 0
+      by_first None is =
+          omega (
+            arith,
+            ap (λ (o : Option Bytes). unless_asleep o (wanted_block_of floor tables w)) is,
+            ap (λ (b : Bool). cond b (owed below floor tables image w) 0) (woken 0 is),
+          )
+      by_first (Some key) is = omega (arith, ap (λ (o : Option Bytes). unless_asleep o (wanted_block_of floor tables w)) is)
 
-  pub wanted_owed : (m : Merge) → wanted m tables ≤ all_owed below m tables image
-  wanted_owed m = omega (arith, owed_parts m.floor m.walks)
+  pub wanted_owed : (looks : Option Bytes) (l : LateMerge) (after : List (Option Bytes)) → ((at : ℕ) → waking_at after at ≡ None → wakes_up_to looks (waking_at l.asleep at) ≡ true)
+      → wanted_awake l.merge.floor tables after l.merge.walks ≤ all_owed below looks l tables image
+  wanted_owed looks l after woken = wanted_walks looks l.merge.floor l.asleep after woken l.merge.walks
 
   -- what is read for a row is paid by what is owed no more
-  pub paid : (old new : Merge) (row : Entry) → IsPaced tables image old new → IsSoundMerge new tables image → new.now ≡ Some row → clears old.floor row.key ≡ true → new.floor ≡ passed_at row.key
-      → below row.key ≡ true → wanted old tables + all_owed below new tables image ≤ all_owed below old tables image
-  paid old new row paced sound now clear floor under =
-      let from = subst (λ (o : Option Entry). IfSome o (λ (r : Entry). AllByRecursion (λ (w : TableWalk). IsHeadFrom r.key w.walk.now) new.walks)) now paced.least in
-      let less = owed_walks old.floor new.floor row.key clear floor under new.walks paced.caught_up from sound.walks in
-      let same = ap (sum_by (λ (l : List Entry). count_by (λ (e : Entry). below e.key) l)) paced.same in
-      omega (arith, less, same, owed_parts old.floor old.walks)
+  pub paid : (looks : Option Bytes) (old new : LateMerge) (row : Entry) → IsLatePaced tables image old new → IsLeastRow new.merge → IsSoundLate new tables image → SleepOn old new → SleepAbove row.key new.asleep
+      → new.merge.now ≡ Some row → clears old.merge.floor row.key ≡ true → new.merge.floor ≡ passed_at row.key → below row.key ≡ true
+      → ((at : ℕ) → waking_at new.asleep at ≡ None → wakes_up_to looks (waking_at old.asleep at) ≡ true)
+      → wanted_awake old.merge.floor tables new.asleep old.merge.walks + all_owed below looks new tables image ≤ all_owed below looks old tables image
+  paid looks old new row paced least sound stand above now clear floor under woken =
+      paid_walks old.merge.floor new.merge.floor row.key clear floor under looks old.asleep new.asleep old.merge.walks new.merge.walks (record {
+        woken = woken;
+        slept = λ at key is. (stand at key is).0;
+        stood = λ at key is. (stand at key is).1;
+        later = λ at key is. later_head key (walk_in old.merge.walks at) (is_before_of row.key key (above at key is))
+            (subst (λ (w : TableWalk). AreFrom key (walk_left tables image w)) (stand at key is).1 (sound.asleep at key is));
+        ready = paced.caught_up;
+        same = paced.same;
+        from = subst (λ (o : Option Entry). IfSome o (λ (r : Entry). AllByRecursion (λ (w : TableWalk). IsHeadFrom r.key w.walk.now) new.merge.walks)) now least;
+        sound = sound.merge.walks;
+      })
+    where
+      later_now : (key : Bytes) (now : Option Entry) (later : List Entry) → is_before row.key key ≡ true → AreFrom key (with_hand now later) → IfSome now (λ (e : Entry). is_before row.key e.key ≡ true)
+      later_now key None later less from = tt
+      later_now key (Some e) later less from = from_then_after e.key key row.key from.0 less
+
+      later_head : (key : Bytes) (w : TableWalk) → is_before row.key key ≡ true → AreFrom key (walk_left tables image w) → IfSome w.walk.now (λ (e : Entry). is_before row.key e.key ≡ true)
+      later_head key w less from = later_now key w.walk.now (later_of w) less from

@@ -2,7 +2,6 @@
 use Rattle.std.proofs.Common.{◌≡◌, ◌≢◌, ◌⊎◌, inl, inr, ◌∙◌, Bool, false, List, [], refl, sym, ap, subst}
 use Rattle.std.specs.Prelude.{IfErr, Option, None, Result, Ok, Err}
 use Rattle.disk_trait.specs.World.{World}
-use Rattle.entry_model.specs.Entries.{Entry}
 use Rattle.level_merge.specs.JobValue.{JobValue}
 use Rattle.mem_table.specs.Table.{MemoryTable}
 use Rattle.store_core.specs.Answers.{IsWriteFailure, stopped_by, stops}
@@ -28,18 +27,18 @@ stopped_stays {T = T} (Err e) a b before after why = λ runs. absurd (never (sto
 -- ---- room that was taken
 
 -- in the memory table, for an entry
-with_room : (store : StoreValue) (m : MemoryTable) → m.entries ≡ store.memory.entries → IsAsItWas store (record store { memory = m })
-with_room store m kept = ap (λ (es : List Entry). record store { memory = record { entries = es; spare = m.spare } }) kept
+with_room : (store : StoreValue) (m : MemoryTable) → m ≡ record store.memory { spare = m.spare } → IsAsItWas store (record store { memory = m })
+with_room store m kept = ap (λ (n : MemoryTable). record store { memory = n }) kept
 
-pub room_taken : {T : Type 0} (r : Result T StoreError) (store before : StoreValue) (m : MemoryTable) → store ≡ before → m.entries ≡ store.memory.entries → Stays r before (record store { memory = m })
+pub room_taken : {T : Type 0} (r : Result T StoreError) (store before : StoreValue) (m : MemoryTable) → store ≡ before → m ≡ record store.memory { spare = m.spare } → Stays r before (record store { memory = m })
 room_taken r store before m same kept = stays_at r before (record store { memory = m }) (subst (λ (k : StoreValue). IsAsItWas k (record store { memory = m })) same (with_room store m kept))
 
 -- and then a flush was refused
-pub flush_stays : {T : Type 0} (r : Result T StoreError) (x : StoreError) (store before after : StoreValue) (m : MemoryTable) → Err x ≡ r → store ≡ before → m.entries ≡ store.memory.entries
+pub flush_stays : {T : Type 0} (r : Result T StoreError) (x : StoreError) (store before after : StoreValue) (m : MemoryTable) → Err x ≡ r → store ≡ before → m ≡ record store.memory { spare = m.spare }
     → (stops x ≡ false → IsAsItWas (record store { memory = m }) after) → Stays r before after
 flush_stays {T = T} r x store before after m passed same kept stays = subst (λ (q : Result T StoreError). Stays q before after) passed
     (λ runs. subst (λ (k : StoreValue). IsAsItWas k after) same
-    (stays runs ∙ ap (λ (es : List Entry). record store { memory = record { entries = es; spare = after.memory.spare }; buffer = after.buffer }) kept))
+    (stays runs ∙ ap (λ (n : MemoryTable). record store { memory = record n { spare = after.memory.spare }; buffer = after.buffer }) kept))
 
 -- for tables
 pub tables_stay : {T : Type 0} (r : Result T StoreError) (store before : StoreValue) (ts : List Opened) → store ≡ before → ts ≡ store.tables → Stays r before (record store { tables = ts })

@@ -24,13 +24,13 @@ use Rattle.table_model.specs.Tables.{FilterBytes, Table}
 
 module _ (spelling : Spelling) (image : Image) where
   module _ (opened : Opened) (t : Table) (held : TableAgrees spelling opened t image) where
-    leaves_are : opened.filter.leaves ≡ table_leaves t
+    pub leaves_are : opened.filter.leaves ≡ table_leaves t
     leaves_are = held.stands.leaves_are ∙ sym (ap table_leaves held.table_is)
 
     hash_are : opened.filter.hash_bits ≡ t.settings.hash_bits
     hash_are = held.stands.hash_is ∙ sym (ap (λ (u : Table). u.settings.hash_bits) held.table_is)
 
-    real_are : opened.filter.real_bits ≡ t.settings.real_bits
+    pub real_are : opened.filter.real_bits ≡ t.settings.real_bits
     real_are = held.stands.real_is ∙ sym (ap (λ (u : Table). u.settings.real_bits) held.table_is)
 
     pub admits_same : (key : Bytes) → is_admitting key opened ≡ admits key t
@@ -82,7 +82,7 @@ module _ (spelling : Spelling) (image : Image) where
 -- as the device reads
 pub seen_as : (spelling : Spelling) (filter_bytes : FilterBytes) (store : StoreValue) (s : State) (w : World) → w.leaves w.moment w.seen.held → Represents spelling filter_bytes store s w
     → ReadsAs spelling filter_bytes store s w.seen.held
-seen_as spelling filter_bytes store s w current tied = record { sound = tied.sound; under = tied.images w.seen.held current; memory = tied.memory }
+seen_as spelling filter_bytes store s w current tied = record { sound = tied.sound; under = tied.images w.seen.held current; memory = tied.memory; ranges = tied.ranges }
 
 module _ (spelling : Spelling) (filter_bytes : FilterBytes) (store : StoreValue) (s : State) (image : Image) (seen : ReadsAs spelling filter_bytes store s image) where
   pub seen_many : length store.tables ≡ length s.tables

@@ -50,7 +50,7 @@ rose_since a b c later rose = omega (arith, later, rose)
 
 -- whether it is stopped is no part of what it is tied to
 pub tied_stopped : (spelling : Spelling) (bytes : FilterBytes) (store : StoreValue) (s : State) (w : World) (stopped : Bool) → Represents spelling bytes store s w → Represents spelling bytes (record store { stopped = stopped }) s w
-tied_stopped spelling bytes store s w stopped tied = record { sound = tied.sound; none_kept = tied.none_kept; images = tied.images; log = tied.log; memory = tied.memory; blocks = tied.blocks }
+tied_stopped spelling bytes store s w stopped tied = record { sound = tied.sound; none_kept = tied.none_kept; images = tied.images; log = tied.log; memory = tied.memory; ranges = tied.ranges; blocks = tied.blocks }
 
 -- a store without a merge, stopped or not
 pub tied_none : (spelling : Spelling) (bytes : FilterBytes) (store : StoreValue) (s : State) (w : World) (stopped : Bool) → store.job ≡ None → Represents spelling bytes (record store { job = None }) s w
@@ -241,5 +241,6 @@ module _ (spelling : Spelling) (bytes : FilterBytes) (s : State) where
       images = λ image left. next.2 image (tied.images image left);
       log = tied.log;
       memory = tied.memory;
+      ranges = tied.ranges;
       blocks = tied.blocks;
     }

@@ -15,7 +15,7 @@ use Rattle.level_merge.specs.Follows.{Follows}
 use Rattle.store_search.specs.TablesAgree.{TablesAgree}
 use Rattle.level_merge.specs.Laws.{StandingAgrees}
 use Rattle.level_merge.specs.JobValue.{JobValue, begun}
-use Rattle.level_merge.specs.Plans.{Agree, Agrees, IsPlanOf, MayStart, PlanByNumbers, numbered}
+use Rattle.level_merge.specs.Plans.{Agree, IsPlanOf, MayStart, PlanByNumbers, numbered}
 use Rattle.manifest_model.proofs.Rows.{rows_keep}
 use Rattle.manifest_model.specs.Laws.{IsVersion}
 use Rattle.manifest_model.specs.Rows.{extent_of}
@@ -27,6 +27,7 @@ use Rattle.merge_rows.specs.Steps.{number_of_walk, numbers}
 use Rattle.state_model.specs.Merges.{Plan, choose}
 use Rattle.state_model.specs.State.{Job, State, written_by}
 use Rattle.state_model.specs.Tends.{started, with_job}
+use Rattle.state_model.specs.WithoutRanges.{HasNoRange}
 use Rattle.table_file.specs.Opened.{Opened}
 use Rattle.table_model.specs.Images.{StandsInExtent}
 use Rattle.table_model.specs.Tables.{Table}
@@ -90,7 +91,7 @@ module _ (spelling : Spelling) (store : StoreValue) (s : State) where
   begins_on : BegunFollows → (p : PlanByNumbers) (plan : Plan) (set : Settings) (image : Image) → s.job ≡ None → Under image → MayStart store.tables p → IsPlanOf s.tables (Some p) (Some plan)
       → set ≡ settings_of store.manifest.version → RepresentsOn spelling store.manifest store.tables (Some (begun p set store.tables)) (with_job s (started plan)) image
   begins_on begins p plan set image none under may is same =
-      let follows = begins spelling s store.tables image p plan under.tables may is in
+      let follows = begins spelling s store.tables image p plan under.tables under.ready.named.no_ranges may is in
       let here = subst (λ (t : Settings). Follows spelling s store.tables image (begun p t store.tables) (started plan)) (under.ready.named.settings ∙ sym same) follows in
       record {
         ready = ready_with spelling _ _ _ store.manifest.version s (started plan) image (stands_with plan image none under) under.ready;
@@ -113,13 +114,13 @@ not_chosen tables None is = refl
 not_chosen tables (Some plan) is = absurd is
 
 -- tables on the device agree with those of the state
-pub all_agree : StandingAgrees → (spelling : Spelling) (image : Image) (opened : List Opened) (tables : List Table) → TablesAgree spelling opened tables image → Agree opened tables
-all_agree law spelling image [] [] held = tt
-all_agree law spelling image [] (t ∷ tables) held = absurd held
-all_agree law spelling image (o ∷ opened) [] held = absurd held
-all_agree law spelling image (o ∷ opened) (t ∷ tables) held = (
-  subst (Agrees o) (sym held.0.table_is) (law spelling o held.0.blocks image held.0.stands),
-  all_agree law spelling image opened tables held.1,
+pub all_agree : StandingAgrees → (spelling : Spelling) (image : Image) (opened : List Opened) (tables : List Table) → TablesAgree spelling opened tables image → AllByRecursion HasNoRange tables → Agree opened tables
+all_agree law spelling image [] [] held none = tt
+all_agree law spelling image [] (t ∷ tables) held none = absurd held
+all_agree law spelling image (o ∷ opened) [] held none = absurd held
+all_agree law spelling image (o ∷ opened) (t ∷ tables) held none = (
+  law spelling o t image held.0 none.0,
+  all_agree law spelling image opened tables held.1 none.1,
 )
 
 -- ---- whatever the device holds
@@ -158,7 +159,7 @@ module _ (spelling : Spelling) (store : StoreValue) (s : State) (agrees : Standi
     (none : store.job ≡ None) (image : Image) (under : RepresentsOn spelling store.manifest store.tables store.job s image) where
   -- the one that begins
   pub next_of_begun : (found : Option JobValue) → IsBegunAmong store.tables set found → IsNext spelling store s found
-  next_of_begun None is = next_none spelling store s image none under (is s.tables (all_agree agrees spelling image store.tables s.tables under.tables))
+  next_of_begun None is = next_none spelling store s image none under (is s.tables (all_agree agrees spelling image store.tables s.tables under.tables under.ready.named.no_ranges))
   next_of_begun (Some m) is =
       subst (λ (x : JobValue). IsNext spelling store s (Some x)) (sym is.2)
-      (next_begins spelling store s begins is.0 set image none under is.1 (is.3 s.tables (all_agree agrees spelling image store.tables s.tables under.tables)) same)
+      (next_begins spelling store s begins is.0 set image none under is.1 (is.3 s.tables (all_agree agrees spelling image store.tables s.tables under.tables under.ready.named.no_ranges)) same)

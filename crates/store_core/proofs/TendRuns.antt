@@ -32,7 +32,7 @@ use Rattle.merge_rows.specs.Steps.{AreWalksIn, number_of_walk, numbers, stands}
 use Rattle.state_model.proofs.Places.{entries_in_pages}
 use Rattle.table_file.specs.Opened.{Opened}
 use Rattle.table_file.specs.Writing.{made_filter}
-use Rattle.table_model.specs.Written.{row_for}
+use Rattle.table_model.specs.Written.{row_for, row_from}
 use Rattle.store_core.specs.Running.{HasMoreToMake, IsRun, extents_with}
 use Rattle.store_core.specs.Tending.{SomeMoves}
 use Rattle.store_core.proofs.Moved.{moves_widened}
@@ -61,7 +61,7 @@ laid_push pages es e laid on apart = record {
 -- ---- the row of an output
 
 row_of_table : (level first : ℕ) (settings : Settings) (entries : List Entry) (filter_bytes : Bytes) → level ≤ 6 → IsTable entries → IsTableRow (row_for level first settings entries filter_bytes)
-unfolding row_for
+unfolding row_from
 row_of_table level first settings entries filter_bytes small table = record {
   level = small;
   data_pages = omega (arith, table.some, entries_in_pages entries);
@@ -74,7 +74,7 @@ module _ (spelling : Spelling) (cutoff : ℕ → List Leaf → ℕ) (v : Version
   row_is_table : (row : Row) → old.output ≤ 6 → IsRowOf spelling cutoff old row → IsTableRow row
   row_is_table row small of =
       subst IsTableRow (sym of.row_is)
-      (row_of_table old.output row.first_page old.settings of.entries (made_filter spelling cutoff (record { settings = old.settings; entries = of.entries })) small of.table)
+      (row_of_table old.output row.first_page old.settings of.entries (made_filter spelling cutoff (record { settings = old.settings; entries = of.entries; ranges = [] })) small of.table)
 
   module _ (pages : free.pages ≡ v.pages) (extents : IsPermutation (extents_with v old.outputs) free.extents) where
     laid_with : (row : Row) → AddsOutput spelling cutoff old new free after row → AreLaid v.pages (extents_with v new.outputs)

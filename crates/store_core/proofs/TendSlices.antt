@@ -129,7 +129,7 @@ module _ (law : OtherImageIsFollowed) (spelling : Spelling) (cutoff : ℕ → Li
       slice_meanwhile = meanwhile_weaker Under Map a b (kept_by moves) (under_stands spelling store.manifest store.tables (Some old) few rows s)
 
       still_tied : Represents spelling (filter_bytes_of spelling cutoff) (record store { job = Some old }) s b
-      still_tied = record { sound = tied.sound; none_kept = tied.none_kept; images = still_under; log = tied.log; memory = tied.memory; blocks = tied.blocks }
+      still_tied = record { sound = tied.sound; none_kept = tied.none_kept; images = still_under; log = tied.log; memory = tied.memory; ranges = tied.ranges; blocks = tied.blocks }
 
       pub slice_dropped : Represents spelling (filter_bytes_of spelling cutoff) (record store { job = None }) (without_job s) b
       slice_dropped = tied_dropped spelling (filter_bytes_of spelling cutoff) (record store { job = Some old }) s b still_tied
@@ -163,6 +163,7 @@ module _ (law : OtherImageIsFollowed) (spelling : Spelling) (cutoff : ℕ → Li
             images = later_under;
             log = tied.log;
             memory = tied.memory;
+            ranges = tied.ranges;
             blocks = tied.blocks;
           };
         }

@@ -5,32 +5,34 @@ use Rattle.std.specs.List.{AllByRecursion}
 use Rattle.std.proofs.lemmas.List.{append-nil}
 use Rattle.block_model.specs.Block.{IsTable}
 use Rattle.byte_fields.specs.declared.parts.Row.{Row}
-use Rattle.entry_model.specs.Entries.{Entry, filled}
+use Rattle.entry_model.specs.Entries.{Entry}
 use Rattle.extent_model.proofs.Lists.{all_pairs, pairs_of}
 use Rattle.extent_model.specs.Extents.{AreApart, AreLaid, IsOnDevice}
 use Rattle.key_base.specs.Limits.{last_epoch}
 use Rattle.level_merge.specs.JobValue.{JobValue}
 use Rattle.log_model.proofs.Logs.{none_filled}
+use Rattle.log_model.specs.Changes.{filled_by}
 use Rattle.manifest.proofs.Steps.{raised_is}
 use Rattle.manifest.specs.Manifest.{Manifest}
 use Rattle.manifest_model.proofs.Rows.{rows_keep}
 use Rattle.manifest_model.specs.Laws.{IsVersion}
 use Rattle.manifest_model.specs.Rows.{extent_of}
 use Rattle.manifest_model.specs.Version.{Version, log_page_of}
+use Rattle.mem_table.specs.Table.{source_in}
 use Rattle.merge_rows.proofs.Begins.{walks_then}
-use Rattle.state_model.proofs.SoundLogs.{newest_none}
+use Rattle.state_model.proofs.SoundLogs.{memory_is_table, source_none}
+use Rattle.range_model.specs.Sources.{Source, empty_source}
 use Rattle.table_file.specs.Opened.{Opened}
 use Rattle.store_search.specs.Caching.{AreNumbered, Cached}
 use Rattle.store_core.specs.Flushing.{installed_manifest, next_manifest}
-use Rattle.store_core.specs.StoreValue.{IsConsistent, IsOfEntries, StoreValue, rows_of}
+use Rattle.store_core.specs.StoreValue.{IsConsistent, IsOfChanges, StoreValue, rows_of}
 use Rattle.store_core.specs.Running.{MayRunIn, extents_with, outputs_in}
 use Rattle.store_search.proofs.Caches.{numbered_more}
-use Rattle.store_core.proofs.Recorded.{newest_table}
 
 -- a log with no record, and no entry
-none_of : (store : StoreValue) → store.log.filled ≡ 0 → store.memory.entries ≡ [] → IsOfEntries store.log store.memory.entries
+none_of : (store : StoreValue) → store.log.filled ≡ 0 → source_in store.memory ≡ empty_source → IsOfChanges store.log (source_in store.memory)
 none_of store begun cleared = record {
-  entries = [];
+  changes = [];
   sound = tt;
   fits = omega (arith, none_filled);
   filled_is = begun ∙ sym none_filled;
@@ -79,13 +81,13 @@ module _ (store after : StoreValue) (opened : Opened) (row : Row) (next : Manife
       (subst (λ (ts : List Opened). MayRunIn ((installed_manifest (next_manifest store.manifest row)).version) ts after.job) (sym tables_are)
       (subst (MayRunIn ((installed_manifest (next_manifest store.manifest row)).version) (opened ∷ store.tables)) (sym same_job) (runs_with row opened store.manifest store.tables store.job free whole.job)))
 
-  pub flushed_whole : next.version.log_page ≡ log_page_of after.log.area → after.log.filled ≡ 0 → after.memory.entries ≡ [] → IsConsistent after
+  pub flushed_whole : next.version.log_page ≡ log_page_of after.log.area → after.log.filled ≡ 0 → source_in after.memory ≡ empty_source → IsConsistent after
   flushed_whole area begun cleared = record {
     version = subst (λ (m : Manifest). IsVersion m.version) (sym manifest_is) (raised_is next.version is (λ last. absurd (omega (arith, last, epoch))));
     slot = subst (λ (m : Manifest). m.slot ≤ 1) (sym manifest_is) (omega arith);
     rows = rows_behind ∙ ap (λ (m : Manifest). m.version.rows) (sym manifest_is);
     area = ap (λ (m : Manifest). m.version.log_page) manifest_is ∙ area;
-    entries = none_of after begun cleared;
+    changes = none_of after begun cleared;
     job = job_behind;
     numbered = subst (λ (b : Cached). AreNumbered b (length after.tables)) (sym blocks_are)
         (subst (λ (ts : List Opened). AreNumbered store.blocks (length ts)) (sym tables_are) (numbered_more store.blocks (length store.tables) whole.numbered));
@@ -94,9 +96,9 @@ module _ (store after : StoreValue) (opened : Opened) (row : Row) (next : Manife
 -- with nothing in memory the log has no record
 pub begun_where_none : (store : StoreValue) → IsConsistent store → store.memory.entries ≡ [] → store.log.filled ≡ 0
 begun_where_none store whole none =
-    let of = whole.entries in
-    let no_entries = newest_none of.entries (sym of.memory_is ∙ none) in
-    omega (arith, of.filled_is, ap filled no_entries, none_filled)
+    let of = whole.changes in
+    let no_change = source_none of.changes of.sound (sym (ap (λ (source : Source). source.entries) of.memory_is) ∙ none) in
+    omega (arith, of.filled_is, ap filled_by no_change, none_filled)
 
 some_of : (entries : List Entry) → entries ≢ [] → 1 ≤ length entries
 some_of [] some = absurd (some refl)
@@ -105,8 +107,9 @@ some_of (e ∷ more) some = omega arith
 -- with something in memory that is a table
 pub memory_table : (store : StoreValue) → IsConsistent store → store.memory.entries ≢ [] → IsTable store.memory.entries
 memory_table store whole some =
-    let of = whole.entries in
-    subst IsTable (sym of.memory_is) (newest_table of.entries of.sound of.fits (subst (λ (es : List Entry). 1 ≤ length es) of.memory_is (some_of store.memory.entries some)))
+    let of = whole.changes in
+    subst (λ (source : Source). IsTable source.entries) (sym of.memory_is)
+    (memory_is_table of.changes of.sound of.fits (subst (λ (source : Source). 1 ≤ length source.entries) of.memory_is (some_of store.memory.entries some))).entries
 
 -- whether it is stopped is no part of it
 pub whole_stopped : (store : StoreValue) (stopped : Bool) (tables : List Opened) → tables ≡ store.tables → IsConsistent store → IsConsistent (record store { stopped = stopped; tables = tables })
@@ -115,7 +118,7 @@ whole_stopped store stopped tables same whole = record {
   slot = whole.slot;
   rows = ap rows_of same ∙ whole.rows;
   area = whole.area;
-  entries = whole.entries;
+  changes = whole.changes;
   job = subst (λ (ts : List Opened). MayRunIn store.manifest.version ts store.job) (sym same) whole.job;
   numbered = subst (λ (ts : List Opened). AreNumbered store.blocks (length ts)) (sym same) whole.numbered;
 }

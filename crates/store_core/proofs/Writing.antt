@@ -76,32 +76,19 @@ need_over filled_now size log is few wide = over size (gap log) (omega (arith, i
 
 -- ---- room that is taken for an entry
 
-pub tied_with : (spelling : Spelling) (bytes : FilterBytes) (store : StoreValue) (s : State) (w : World) (m : MemoryTable) → m.entries ≡ store.memory.entries → Represents spelling bytes store s w
+pub kept_room : (m n : MemoryTable) → m.entries ≡ n.entries → m.ranges ≡ n.ranges → m.range_spare ≡ n.range_spare → m ≡ record n { spare = m.spare }
+kept_room m n entries ranges room = λ i. record { entries = entries i; ranges = ranges i; spare = m.spare; range_spare = room i }
+
+pub tied_with : (spelling : Spelling) (bytes : FilterBytes) (store : StoreValue) (s : State) (w : World) (m : MemoryTable) → m ≡ record store.memory { spare = m.spare } → Represents spelling bytes store s w
     → Represents spelling bytes (record store { memory = m }) s w
 tied_with spelling bytes store s w m kept tied = record {
   sound = tied.sound;
   none_kept = tied.none_kept;
   images = tied.images;
   log = tied.log;
-  memory = kept ∙ tied.memory;
+  memory = ap (λ (n : MemoryTable). n.entries) kept ∙ tied.memory;
+  ranges = ap (λ (n : MemoryTable). n.ranges) kept ∙ tied.ranges;
   blocks = tied.blocks;
-}
-
-pub whole_with : (store : StoreValue) (m : MemoryTable) → m.entries ≡ store.memory.entries → IsConsistent store → IsConsistent (record store { memory = m })
-whole_with store m kept whole = record {
-  version = whole.version;
-  slot = whole.slot;
-  rows = whole.rows;
-  area = whole.area;
-  entries = record {
-    entries = whole.entries.entries;
-    sound = whole.entries.sound;
-    fits = whole.entries.fits;
-    filled_is = whole.entries.filled_is;
-    memory_is = kept ∙ whole.entries.memory_is;
-  };
-  job = whole.job;
-  numbered = whole.numbered;
 }
 
 module _ (spelling : Spelling) (bytes : FilterBytes) (s : State) (e : Entry) where

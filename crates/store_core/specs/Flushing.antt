@@ -85,7 +85,7 @@ need_under filter_bytes v entries = table_pages filter_bytes (settings_of v) ent
 -- first: fewer tables than the most stood before it, and an epoch is left.
 pub record IsPlan (spelling : Spelling) (built_cutoff : ℕ → List Leaf → ℕ) (m : Manifest) (outputs : List Row) (entries : List Entry) (parts : Built) (row : Row) (next : Manifest) : Type 0 where
   pub few : length m.version.rows < max_tables
-  pub parts_are : parts ≡ record { settings = settings_of m.version; entries = entries }
+  pub parts_are : parts ≡ record { settings = settings_of m.version; entries = entries; ranges = [] }
   pub place : first_gap m.version.pages (extents_with m.version outputs) (need_under (filter_bytes_of spelling built_cutoff) m.version entries) ≡ Some row.first_page
   pub epoch : m.version.epoch < last_epoch
   pub row_is : row ≡ made_row spelling built_cutoff parts 0 row.first_page

@@ -8,16 +8,17 @@ use Rattle.byte_fields.specs.declared.parts.Row.{Row}
 use Rattle.disk_trait.specs.Image.{Image}
 use Rattle.disk_trait.specs.World.{Rose, World}
 use Rattle.disk_trait.specs.declared.fault.DiskFault.{DiskFault}
-use Rattle.entry_model.specs.Entries.{Entry, filled}
-use Rattle.entry_model.specs.Newest.{newest_entries}
 use Rattle.filter_api.specs.Spellings.{Spelling}
 use Rattle.image_model.specs.Opening.{FirstDamage, OpensWith, TablesBreak}
+use Rattle.log_model.specs.Changes.{filled_by}
 use Rattle.manifest.specs.Loading.{IsLoaded}
 use Rattle.manifest.specs.Manifest.{Manifest, place_of}
 use Rattle.manifest_model.specs.Slots.{IsNoStore}
 use Rattle.manifest_model.specs.Tables.{KeyRange, ranges_fault}
 use Rattle.manifest_model.specs.Version.{body_place}
 use Rattle.map_model.specs.SortedMap.{Bytes}
+use Rattle.mem_table.specs.Table.{source_in}
+use Rattle.range_model.specs.Sources.{Change, source_of}
 use Rattle.store_core.specs.Answers.{is_write}
 use Rattle.store_search.specs.Caching.{none_cached}
 use Rattle.store_search.specs.Searching.{ReadRose}
@@ -69,17 +70,17 @@ pub record IsVersionOpened (spelling : Spelling) (image : Image) (m : Manifest) 
   pub ranges : ranges_fault (map opened_range ts) ≡ None
 
 -- The image opens with the version of the store, which is in its slot, and with some log: the one in memory ends after its
--- entries, the newest of them are in the memory table, the open tables are those of the version's rows, no merge runs, and no
+-- changes, what they make is in the memory table, the open tables are those of the version's rows, no merge runs, and no
 -- block is kept.
 pub record IsOpenedAs (spelling : Spelling) (image : Image) (store : StoreValue) : Type 0 where
   pub loaded : IsLoaded image store.manifest
-  pub entries : List Entry
-  pub opens : OpensWith spelling store.manifest.version entries image
+  pub changes : List Change
+  pub opens : OpensWith spelling store.manifest.version changes image
   pub rows : rows_of store.tables ≡ store.manifest.version.rows
   pub tables : AreOpened spelling store.tables image
   pub job : store.job ≡ None
-  pub log : store.log.filled ≡ filled entries
-  pub memory : store.memory.entries ≡ newest_entries entries
+  pub log : store.log.filled ≡ filled_by changes
+  pub memory : source_in store.memory ≡ source_of changes
   pub none_kept : store.blocks ≡ none_cached
 
 -- no store exactly where no slot is open, and damage is the first of the image

@@ -10,7 +10,7 @@ use Rattle.manifest.specs.Manifest.{Manifest, other_place, place_of}
 use Rattle.state_model.specs.Logs.{filled_by}
 use Rattle.state_model.specs.Sound.{IsSound}
 use Rattle.state_model.specs.State.{State}
-use Rattle.state_model.specs.View.{memory}
+use Rattle.state_model.specs.View.{in_memory, memory}
 use Rattle.store_search.specs.Caching.{CacheAgrees}
 use Rattle.store_core.specs.StoreValue.{StoreValue}
 use Rattle.store_core.specs.Running.{RunsAs}
@@ -33,6 +33,7 @@ pub record Represents (spelling : Spelling) (filter_bytes : FilterBytes) (store 
   pub images : Now (RepresentsOn spelling store.manifest store.tables store.job s) w
   pub log : store.log.filled ≡ filled_by s.log
   pub memory : store.memory.entries ≡ memory s
+  pub ranges : store.memory.ranges ≡ (in_memory s).ranges
   pub blocks : CacheAgrees store.blocks store.tables s.tables
 
 -- An image of the device shows the store as that of a sound state: it has the version of the store and the state's tables, and
@@ -41,3 +42,4 @@ pub record ReadsAs (spelling : Spelling) (filter_bytes : FilterBytes) (store : S
   pub sound : IsSound filter_bytes s
   pub under : RepresentsOn spelling store.manifest store.tables store.job s image
   pub memory : store.memory.entries ≡ memory s
+  pub ranges : store.memory.ranges ≡ (in_memory s).ranges

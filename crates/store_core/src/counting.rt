@@ -5,7 +5,7 @@ ghost use Rattle.line_model.specs.Limits.{limit_of};
 ghost use Rattle.line_model.specs.Requests.{Count};
 ghost use Rattle.map_model.specs.Slices.{count, is_before};
 ghost use Rattle.merge_rows.specs.Reads.{OnlyReads};
-ghost use Rattle.state_model.specs.Bounds.{seek_bound};
+ghost use Rattle.state_model.specs.Bounds.{tables_between};
 ghost use Rattle.state_model.specs.State.{State};
 ghost use Rattle.state_model.specs.View.{state_map};
 ghost use Rattle.store_core.specs.Answers.{IsTried};
@@ -32,7 +32,7 @@ impl<F: RangeFilter> Store<F> {
         ensures tied { (s : State) → Represents F.spelling (filter_bytes_of F.spelling F.built_cutoff) self.now s (D.world disk.old) → Represents F.spelling (filter_bytes_of F.spelling F.built_cutoff) self.now s (D.world disk.new) }
         ensures undamaged { (s : State) → IsTrue D.tells → Represents F.spelling (filter_bytes_of F.spelling F.built_cutoff) self.now s (D.world disk.old) → IfErr result IsUndamaged }
         ensures shown { IsTrue D.tells → IfErr result (IsScanShown self.now.tables (D.world disk.old).seen.held) }
-        ensures only_if_read { (s : State) → IsTrue D.tells → Represents F.spelling (filter_bytes_of F.spelling F.built_cutoff) self.now s (D.world disk.old) → IfErr result (IsMet (seek_bound s low.now high.now)) }
+        ensures only_if_read { (s : State) → IsTrue D.tells → Represents F.spelling (filter_bytes_of F.spelling F.built_cutoff) self.now s (D.world disk.old) → IfErr result (IsMet (tables_between s low.now high.now)) }
         ensures sound { IsTrue D.tells → IfOk result (λ n. is_before high.now low.now ≡ false → CountsSound self.now.tables low.now high.now (D.world disk.old).seen.held n) }
         ensures whole { (s : State) → IsTrue D.tells → Represents F.spelling (filter_bytes_of F.spelling F.built_cutoff) self.now s (D.world disk.old)
             → (D.world disk.new).seen.reads ≤ (D.world disk.old).seen.reads + blocks_admitting low.now (Some high.now) self.now.tables }

@@ -38,7 +38,7 @@ pub enum StoreError {
     Stopped,
     /// A limit is broken.
     Limit(Limit),
-    /// A table needs a given number of pages, and the largest gap has fewer.
+    /// A table needs `need` pages, and the largest gap has fewer.
     Full { need: u64, gap: u64 },
     /// A part of the device that was read is damaged.
     Damaged(Damage),

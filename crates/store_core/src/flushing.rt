@@ -28,7 +28,8 @@ ghost use Rattle.store_core.specs.StoreValue.{IsConsistent, StoreValue};
 ghost use Rattle.store_core.specs.Running.{extents_with, outputs_in};
 ghost use Rattle.store_core.specs.Represents.{Represents};
 ghost use Rattle.store_core.specs.Staying.{DoesNothing, Stays};
-ghost use Rattle.table_model.specs.Tables.{filter_bytes_of, table_pages};
+ghost use Rattle.table_file.specs.Building.{source_in};
+ghost use Rattle.table_model.specs.Tables.{filter_bytes_of, source_pages};
 
 use crate::error::{Limit, StoreError, stops_store};
 use crate::long_values::build_with;
@@ -61,7 +62,7 @@ fn build_table<F: RangeFilter>(
 ) -> Result<Parts<F>, AllocError>
     requires settings { InRange settings }
     requires table { IsTable memory.now.entries }
-    ensures { IfOk result (λ parts. parts ≡ record { settings = settings; entries = memory.now.entries }) }
+    ensures { IfOk result (λ parts. parts ≡ record { settings = settings; entries = memory.now.entries; ranges = [] }) }
 {
     let mut builder = TableBuilder::new(alloc, settings);
     let mut cursor = memory.cursor(&[]);
@@ -85,7 +86,7 @@ fn build_flushed<F: RangeFilter>(
     requires rises { KeysRise memory.now.entries }
     requires sound { AllByRecursion IsEntry memory.now.entries }
     requires table { IsTable (entries_with memory.now.entries (over_of over)) }
-    ensures { IfOk result (λ parts. parts ≡ record { settings = settings; entries = entries_with memory.now.entries (over_of over.entry) }) }
+    ensures { IfOk result (λ parts. parts ≡ record { settings = settings; entries = entries_with memory.now.entries (over_of over.entry); ranges = [] }) }
 {
     match over {
         Some((key, value)) => build_with(alloc, settings, memory, key, value),
@@ -209,7 +210,7 @@ fn plan_flush<F: RangeFilter>(
     requires table { IsTable (entries_with memory.now.entries (over_of over)) }
     requires need { IfSome need (λ pages. pages ≡ need_under (filter_bytes_of F.spelling F.built_cutoff) version.now.version (entries_with memory.now.entries (over_of over))) }
     ensures plan { IfOk result (λ p. IsPlan F.spelling F.built_cutoff version.now outputs.now (entries_with memory.now.entries (over_of over.entry)) p.parts p.row p.next) }
-    ensures fits { IfOk result (λ p. p.row.first_page + table_pages (filter_bytes_of F.spelling F.built_cutoff) p.parts.settings p.parts.entries ≤ p.next.version.pages) }
+    ensures fits { IfOk result (λ p. p.row.first_page + source_pages (filter_bytes_of F.spelling F.built_cutoff) p.parts.settings (source_in p.parts) ≤ p.next.version.pages) }
     ensures next { IfOk result (λ p. IsVersion p.next.version) }
     ensures refused { IfErr result (IsPlanRefusal (filter_bytes_of F.spelling F.built_cutoff) version.now.version outputs.now (entries_with memory.now.entries (over_of over.entry))) }
 {
@@ -243,7 +244,7 @@ fn write_plan<F: RangeFilter, D: Disk>(
     disk: &mut D,
     plan: &Plan<F>,
 ) -> Result<Log, ManifestFault>
-    requires fits { plan.now.row.first_page + table_pages (filter_bytes_of F.spelling F.built_cutoff) plan.now.parts.settings plan.now.parts.entries ≤ plan.now.next.version.pages }
+    requires fits { plan.now.row.first_page + source_pages (filter_bytes_of F.spelling F.built_cutoff) plan.now.parts.settings (source_in plan.now.parts) ≤ plan.now.next.version.pages }
     requires slot { plan.now.next.slot ≤ 1 }
     requires sound { IsVersion plan.now.next.version }
     requires epoch { plan.now.next.version.epoch < last_epoch }

@@ -70,7 +70,7 @@ pub(crate) fn build_with<F: RangeFilter>(
     requires rises { KeysRise memory.now.entries }
     requires sound { AllByRecursion IsEntry memory.now.entries }
     requires table { IsTable (with_entry memory.now.entries (put_entry key.now value.now)) }
-    ensures { IfOk result (λ parts. parts ≡ record { settings = settings; entries = with_entry memory.now.entries (put_entry key.now value.now) }) }
+    ensures { IfOk result (λ parts. parts ≡ record { settings = settings; entries = with_entry memory.now.entries (put_entry key.now value.now); ranges = [] }) }
 {
     let mut builder = TableBuilder::new(alloc, settings);
     add_below(&mut builder, memory, key)?;

@@ -3,9 +3,9 @@ ghost use Rattle.std.specs.Prelude.{◌≡◌, ◌≤◌, ◌<◌, ◌+◌, ◌*
 ghost use Rattle.std.specs.List.{AllByRecursion};
 ghost use Rattle.block_model.specs.Places.{FitsDevice};
 ghost use Rattle.disk_trait.specs.World.{Moves, ReadMoves};
-ghost use Rattle.entry_model.specs.Entries.{IsLogged, filled};
-ghost use Rattle.state_model.specs.Logs.{filled_by};
-ghost use Rattle.entry_model.specs.Newest.{newest_entries};
+ghost use Rattle.log_model.specs.Changes.{IsLoggedChange, filled_by};
+ghost use Rattle.mem_table.specs.Table.{source_in};
+ghost use Rattle.range_model.specs.Sources.{ClearsKeys, source_of};
 ghost use Rattle.image_model.specs.Stands.{IsStateOf};
 ghost use Rattle.key_base.specs.Limits.{log_bytes, max_tables};
 ghost use Rattle.manifest_model.specs.Laws.{IsVersion};
@@ -23,7 +23,7 @@ use crate::error::StoreError;
 use crate::store::Store;
 use byte_fields::{Damage, Part, Row};
 use disk_trait::Disk;
-use entry_list::Entry;
+use entry_list::Change;
 use filter_api::RangeFilter;
 use gate_log::Log;
 use key_base::{SLOT_BYTES, compare};
@@ -141,30 +141,31 @@ impl<F: RangeFilter> Store<F> {
         ensures moves { ReadMoves (7 + 2 * max_tables) (D.world disk.old) (D.world disk.new) }
     {
         let (version, tables) = open_version(alloc, disk)?;
-        let (log, entries) = Log::replay(alloc, disk, version.log_area)?;
-        Store::of_parts(alloc, version, tables, log, entries)
+        let (log, changes) = Log::replay(alloc, disk, version.log_area)?;
+        Store::of_parts(alloc, version, tables, log, changes)
     }
 
-    // The store of a version, its tables and its log, whose newest entries are in memory.
+    // The store of a version, its tables and its log, whose changes are made in memory.
     fn of_parts(
         alloc: Global,
         version: Version,
         tables: Tables<F>,
         log: Log,
-        entries: Vec<Entry>,
+        changes: Vec<Change>,
     ) -> Result<Store<F>, StoreError>
         requires version { IsVersion version.version }
         requires slot { version.slot ≤ 1 }
         requires rows { rows_of tables.tables ≡ version.version.rows }
         requires area { version.version.log_page ≡ log_page_of log.area }
-        requires log { log.filled ≡ filled entries.items }
-        requires sound { AllByRecursion IsLogged entries.items }
-        requires fits { filled entries.items < log_bytes }
+        requires log { log.filled ≡ filled_by changes.items }
+        requires sound { AllByRecursion IsLoggedChange changes.items }
+        requires bounds { AllByRecursion ClearsKeys changes.items }
+        requires fits { filled_by changes.items < log_bytes }
         ensures store { IfOk result (λ store. store ≡ record { stopped = false; manifest = version; tables = tables.tables; job = None; log = log; memory = store.memory; buffer = store.buffer; blocks = none_cached }) }
-        ensures memory { IfOk result (λ store. store.memory.entries ≡ newest_entries entries.items) }
+        ensures memory { IfOk result (λ store. source_in store.memory ≡ source_of changes.items) }
         ensures cause { IfErr result (λ why. why ≡ StoreError.Memory) }
     {
-        let memory = MemTable::fill(entries)?;
+        let memory = MemTable::fill(changes)?;
         let buffer = Vec::with_capacity(alloc, LARGEST_BLOCK_BYTES)?;
         let blocks = CachedBlocks::new(alloc)?;
         Ok(Store {

@@ -38,7 +38,7 @@ pub enum Tended {
     Worked,
     /// No merge runs, and nothing is to be merged.
     Idle,
-    /// An output needs a given number of pages, and the largest gap has fewer. The merge was dropped.
+    /// An output needs `need` pages, and the largest gap has fewer. The merge was dropped.
     Full { need: u64, gap: u64 },
 }
 

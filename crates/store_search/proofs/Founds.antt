@@ -6,6 +6,7 @@ use Rattle.disk_trait.specs.Image.{Image}
 use Rattle.entry_model.specs.Entries.{Entry}
 use Rattle.entry_model.specs.Newest.{lookup}
 use Rattle.filter_api.specs.Spellings.{Spelling}
+use Rattle.block_model.specs.Index.{Index}
 use Rattle.block_model.specs.Laws.{joined}
 use Rattle.map_model.specs.SortedMap.{Bytes}
 use Rattle.state_model.specs.WithoutRanges.{first_found}
@@ -14,6 +15,7 @@ use Rattle.store_search.specs.TablesAgree.{TableAgrees, TablesAgree}
 use Rattle.table_file.specs.Opened.{Opened}
 use Rattle.table_file.specs.Search.{StandsThere}
 use Rattle.table_model.specs.Tables.{Table}
+use Rattle.table_model.proofs.Pieces.{ranges_of_index}
 
 pub first_said : (said older : Option (Option Bytes)) → is_some said ≡ true → option_or said older ≡ said
 first_said None older is = absurd cc
@@ -22,6 +24,12 @@ first_said (Some value) older is = refl
 -- the entries are those of the blocks
 pub held_entries : (spelling : Spelling) (opened : Opened) (t : Table) (image : Image) (held : TableAgrees spelling opened t image) → t.entries ≡ joined held.blocks
 held_entries spelling opened t image held = ap (λ (u : Table). u.entries) held.table_is
+
+-- and the ranges those of the index
+pub ranges_agree : (spelling : Spelling) (opened : Opened) (t : Table) (image : Image) → TableAgrees spelling opened t image → t.ranges ≡ opened.index.ranges
+ranges_agree spelling opened t image held =
+    ap (λ (u : Table). u.ranges) held.table_is
+    ∙ sym (ap (λ (x : Index). x.ranges) held.stands.index_is ∙ ranges_of_index held.stands.at.pieces held.stands.at.ranges)
 
 module _ (spelling : Spelling) (opened : Opened) (t : Table) (older : List Table) (image : Image) (held : TableAgrees spelling opened t image) (key : Bytes)
     (said : Option (Option Bytes)) (is : said ≡ lookup (joined held.blocks) key) where

@@ -12,7 +12,7 @@ use Rattle.table_model.specs.Tables.{Table}
 pub record TableAgrees (spelling : Spelling) (opened : Opened) (t : Table) (image : Image) : Type 0 where
   pub blocks : List (List Entry)
   pub stands : StandsThere spelling opened blocks image
-  pub table_is : t ≡ table_with opened.row blocks
+  pub table_is : t ≡ table_with opened.row blocks stands.at.ranges
 
 -- one after the other
 abbrev pub TablesAgree : Spelling → List Opened → List Table → Image → Type 0

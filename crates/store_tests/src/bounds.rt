@@ -39,7 +39,7 @@ fn a_seek_steps_over_deleted_keys(rt: HostRuntime) -> Result<(), Fail> {
     check_same(
         &rt,
         &seek_bound::<PlainFilter>(rt.alloc(), &end.state, b"\x01", b"\x0a")?,
-        &7,
+        &6,
     );
     check_same(
         &rt,

@@ -142,10 +142,10 @@ fn seek_reads(alloc: Global, store: &PlainStore, disk: &mut MemDisk) -> Result<O
 fn a_seek_reads_past_what_is_kept(rt: HostRuntime) -> Result<(), Fail> {
     let mut disk = disk_of(rt.alloc(), &[])?;
     let mut store = changed(rt.alloc(), &mut disk, &DELETED)?;
-    check_same(&rt, &seek_reads(rt.alloc(), &store, &mut disk)?, &Some(3));
+    check_same(&rt, &seek_reads(rt.alloc(), &store, &mut disk)?, &Some(2));
     let gets = reads_of(&mut store, &mut disk, b"\x03", Some(b"w"), 2);
     check_same(&rt, &gets, &Some(1));
-    check_same(&rt, &seek_reads(rt.alloc(), &store, &mut disk)?, &Some(3));
+    check_same(&rt, &seek_reads(rt.alloc(), &store, &mut disk)?, &Some(2));
     let kept = reads_of(&mut store, &mut disk, b"\x03", Some(b"w"), 1);
     check_same(&rt, &kept, &Some(0));
     Ok(())

@@ -15,6 +15,8 @@ mod changes;
 #[cfg(test)]
 mod deleted_ranges;
 #[cfg(test)]
+mod late;
+#[cfg(test)]
 mod limits;
 #[cfg(test)]
 mod scans;

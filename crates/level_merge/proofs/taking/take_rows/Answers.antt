@@ -66,6 +66,7 @@ loop-rows-init g c =
       stay = record { numbers_are = refl; stands_are = refl; drops_are = refl; sound = λ t s. s };
       building = c.requires.begun;
       settings = refl;
+      ranges = refl;
       fills = fills_none g.D.Disk.tells tables before.seen.held c.args.beside c.args.drops c.args.rows.now c.args.built.now.entries;
       within = omega arith;
       passes = passes_none g.D.Disk.tells tables before.seen.held c.args.blocks c.args.rows.now.walks;
@@ -106,6 +107,7 @@ loop-rows-preserved g c =
       stay = stays_on tells tables image c.args.beside c.args.drops first old mid begun built from.stay from.fills kept read.fewer new step.0 step.1 left;
       building = subst (IsBuilding new.floor) (sym added) (building_more new.now c.args.drops mid.floor new.floor built step.1.passes c.advance_filled.ensures.sound building);
       settings = ap (λ (b : Built). b.settings) c.in_ok-add_row.ensures.added ∙ from.settings;
+      ranges = ap (λ (b : Built). b.ranges) c.in_ok-add_row.ensures.added ∙ from.ranges;
       fills = subst (λ (es : List Entry). FillsOutput tells tables image c.args.beside c.args.drops first new begun es) (sym added)
           (fills_one tells tables image c.args.beside c.args.drops first old mid begun built from.stay from.fills kept read.fewer new step.0 step.1 left some (sym c.is_full.ensures ∙ c.loop-rows-test.true));
       within = omega (arith, within, from.within);

@@ -20,6 +20,7 @@ invariant-loop-rows g l =
       stay : SourcesStay tells tables before.seen.held l.fn.rows l.rows;
       building : IsBuilding l.rows.floor l.built.entries;
       settings : l.built.settings ≡ l.fn.built.settings;
+      ranges : l.built.ranges ≡ l.fn.built.ranges;
       fills : FillsOutput tells tables before.seen.held l.beside l.drops l.fn.rows l.rows l.fn.built.entries l.built.entries;
       within : l.left ≤ l.blocks;
       passes : PassesBlocks tells tables before.seen.held l.blocks l.fn.rows.walks l.rows.walks;

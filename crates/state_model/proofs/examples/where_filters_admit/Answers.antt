@@ -5,8 +5,8 @@ use Rattle.block_model.specs.Pages.{block_length, block_pages, blocks_of, data_p
 use Rattle.entry_model.specs.Entries.{filled, gap, put_entry}
 use Rattle.range_model.specs.Sources.{Sets}
 use Rattle.key_base.specs.Limits.{last_epoch}
-use Rattle.state_model.specs.Bounds.{get_bound, seek_bound}
-use Rattle.state_model.specs.Examples.{aa1_and_ab1, one_byte, small_store}
+use Rattle.state_model.specs.Bounds.{get_bound, seek_bound, tables_between}
+use Rattle.state_model.specs.Examples.{aa1_and_ab1, five_and_six_under_one, key, one_byte, small_store}
 use Rattle.state_model.specs.Play.{played}
 use Rattle.table_model.specs.Tables.{Table}
 use Rattle.state_model.proofs.examples.where_filters_admit.Goals as goal
@@ -37,19 +37,23 @@ returns-clause-an_open_seek c = (λ none. let one : length (played one_byte smal
 
 pub returns-clause-a_range_that_it_admits : goal.returns-clause-a_range_that_it_admits
 unfolding pages_for entries_bytes block_length block_pages blocks_of data_pages index_length filled gap last_epoch
-returns-clause-a_range_that_it_admits c = let one : seek_bound (played one_byte small_store aa1_and_ab1).1 (codes "aa5") (codes "ab0") ≡ 1 = refl in (omega arith, omega (arith, one))
+returns-clause-a_range_that_it_admits c = let one : tables_between (played one_byte small_store aa1_and_ab1).1 (codes "aa5") (codes "ab0") ≡ 1 = refl in (omega arith, omega (arith, one))
 
 pub returns-clause-not_a_range_that_it_denies : goal.returns-clause-not_a_range_that_it_denies
 unfolding pages_for entries_bytes block_length block_pages blocks_of data_pages index_length filled gap last_epoch
-returns-clause-not_a_range_that_it_denies c = λ reads. let none : seek_bound (played one_byte small_store aa1_and_ab1).1 (codes "ac0") (codes "ad0") ≡ 0 = refl in omega (arith, none, reads.1)
+returns-clause-not_a_range_that_it_denies c = λ reads. let none : tables_between (played one_byte small_store aa1_and_ab1).1 (codes "ac0") (codes "ad0") ≡ 0 = refl in omega (arith, none, reads.1)
 
 pub returns-clause-a_count_that_it_admits : goal.returns-clause-a_count_that_it_admits
 unfolding pages_for entries_bytes block_length block_pages blocks_of data_pages index_length filled gap last_epoch
-returns-clause-a_count_that_it_admits c = let one : seek_bound (played one_byte small_store aa1_and_ab1).1 (codes "aa5") (codes "ab0") ≡ 1 = refl in omega (arith, one)
+returns-clause-a_count_that_it_admits c = let one : tables_between (played one_byte small_store aa1_and_ab1).1 (codes "aa5") (codes "ab0") ≡ 1 = refl in omega (arith, one)
 
 pub returns-clause-not_a_count_that_it_denies : goal.returns-clause-not_a_count_that_it_denies
 unfolding pages_for entries_bytes block_length block_pages blocks_of data_pages index_length filled gap last_epoch
-returns-clause-not_a_count_that_it_denies c = λ reads. let none : seek_bound (played one_byte small_store aa1_and_ab1).1 (codes "ac0") (codes "ad0") ≡ 0 = refl in omega (arith, none, reads)
+returns-clause-not_a_count_that_it_denies c = λ reads. let none : tables_between (played one_byte small_store aa1_and_ab1).1 (codes "ac0") (codes "ad0") ≡ 0 = refl in omega (arith, none, reads)
+
+pub returns-clause-a_count_of_more_than_the_memory_answers : goal.returns-clause-a_count_of_more_than_the_memory_answers
+unfolding pages_for entries_bytes block_length block_pages blocks_of data_pages index_length filled gap last_epoch
+returns-clause-a_count_of_more_than_the_memory_answers c = let two : tables_between (played one_byte small_store five_and_six_under_one).1 (key 1) (key 10) ≡ 2 = refl in omega (arith, two)
 
 pub returns-clause-a_compaction_of_a_table : goal.returns-clause-a_compaction_of_a_table
 unfolding pages_for entries_bytes block_length block_pages blocks_of data_pages index_length filled gap last_epoch

@@ -1,4 +1,5 @@
 use Rattle.state_model.proofs.WithoutRanges.{memory_alone, sets_of, merged_alone, planned_alone, live_alone, compacted_alone, found_alone, view_alone, changes_alone, map_alone, meets_alone, filled_alone, gap_alone}
+use Rattle.state_model.proofs.NoRanges.{installed_no_range, placed_no_range}
 use Rattle.state_model.proofs.laws.without_ranges.Goals as goal
 
 pub returns : goal.returns
@@ -16,4 +17,6 @@ returns c = record {
   meeting = meets_alone;
   filled_so = filled_alone;
   gap_so = gap_alone;
+  placed_so = placed_no_range;
+  installed_so = installed_no_range;
 }

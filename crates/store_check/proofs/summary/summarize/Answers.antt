@@ -2,14 +2,15 @@ use Rattle.std.proofs.Common.{◌≡◌, ◌∙◌, inl, inr, rules, List, lengt
 use Rattle.std.specs.List.{AllByRecursion, sum_by}
 use Rattle.block_model.specs.Places.{FitsDevice}
 use Rattle.byte_fields.specs.declared.parts.Row.{Row}
-use Rattle.entry_model.specs.Newest.{newest_entries}
 use Rattle.image_model.specs.Tables.{AreTablesOf}
 use Rattle.manifest.specs.Manifest.{Manifest}
 use Rattle.manifest_model.proofs.Rows.{tables_fit}
+use Rattle.mem_table.specs.Table.{source_in}
+use Rattle.range_model.specs.Sources.{Source, source_of}
 use Rattle.state_model.specs.View.{memory}
 use Rattle.store_check.proofs.Causes.{one_more, only_then, then_reads}
 use Rattle.store_check.proofs.Reopened.{entries_many, rows_many}
-use Rattle.store_check.proofs.Summarized.{few_again, log_again, log_many, many_again, memory_of, memory_sound, merge_again, tables_again, undamaged_given}
+use Rattle.store_check.proofs.Summarized.{few_again, log_again, many_again, memory_sound, merge_again, tables_again, undamaged_given}
 use Rattle.store_check.specs.Summaries.{AreTablesThere, IsSummaryOf, IsUndamaged, entries_in, row_entries}
 use Rattle.store_check.proofs.summary.summarize.Goals as goal
 
@@ -24,7 +25,7 @@ log_records-requires g c =
     elim c.in_ok-version.ensures.sound.log_page [ inl first ↦ omega (arith, first, page) | inr second ↦ omega (arith, second, page) ]
 
 pub live_pairs-requires-clause-sound : goal.live_pairs-requires-clause-sound
-live_pairs-requires-clause-sound g c = memory_sound c.in_ok-records.records.items c.in_ok-memory.memory.entries c.in_ok-records.ensures.sound c.in_ok-memory.ensures
+live_pairs-requires-clause-sound g c = memory_sound c.in_ok-records.records.items (source_in c.in_ok-memory.memory) c.in_ok-records.ensures.sound c.in_ok-memory.ensures
 
 -- ---- no version
 
@@ -60,7 +61,7 @@ returns-in_err-records-clause-summary g c s tells is =
     let m = c.in_ok-version.version in
     let same : m.version ≡ is.0 = c.in_ok-version.ensures.exact is.0 tells is.1.version_is in
     let log = log_again f.spelling s first there held is m same c.version.inside.log_area (ap (λ (x : Manifest). x.version.log_page) c.version.view_is) in
-    let here : IsUndamaged c.in_err-records.field-0.0 = c.in_err-records.ensures.exact is.1.named.entries tells log in
+    let here : IsUndamaged c.in_err-records.field-0.0 = c.in_err-records.ensures.exact s.log tells log in
     search rules
 
 pub returns-in_err-records-clause-moves : goal.returns-in_err-records-clause-moves
@@ -124,13 +125,13 @@ returns-clause-summary g c s tells is =
     let found : AreTablesThere f.spelling opened s.tables first =
     subst (AreTablesThere f.spelling opened s.tables) c.version_now.ensures.moves.held (c.in_ok-tables.ensures.there s.tables tells are) in
     let log = log_again f.spelling s first third held_third is m same c.version.inside.log_area (ap (λ (x : Manifest). x.version.log_page) c.version.view_is) in
-    let records_are : records ≡ is.1.named.entries = c.in_ok-records.ensures.exact is.1.named.entries tells log in
+    let records_are : records ≡ s.log = c.in_ok-records.ensures.exact s.log tells log in
     let entries = c.in_ok-memory.memory.entries in
-    let memory_is : entries ≡ memory s = c.in_ok-memory.ensures ∙ ap newest_entries records_are ∙ memory_of f.spelling s first third held_third is in
+    let memory_is : entries ≡ memory s = ap (λ (source : Source). source.entries) (c.in_ok-memory.ensures ∙ ap source_of records_are) in
     let merges = c.standing_tables_are_merged.ensures in
     let sum : c.entries_of-entries.result ≡ sum_by entries_in s.tables =
     c.entries_of-entries.ensures.sum ∙ ap (sum_by row_entries) (sym again) ∙ entries_many f.spelling second m.version.rows s.tables tables in
-    let count : length records ≡ length s.log = ap length records_are ∙ sym (log_many f.spelling s first third held_third is) in
+    let count : length records ≡ length s.log = ap length records_are in
     let few = few_again f.spelling s first there held is merges opened found entries memory_is in
     record {
       tables = omega (arith, c.len.ensures, c.in_ok-tables.ensures.many, ap length rows, rows_many f.spelling second m.version.rows s.tables tables);

@@ -6,7 +6,7 @@ use Rattle.store_core.proofs.flushing.build_table.Goals as goal
 
 pub loop-init : goal.loop-init
 loop-init g c = (
-  ap (λ (b : Built). b.settings) c.new-builder.ensures,
+  (ap (λ (b : Built). b.settings) c.new-builder.ensures, ap (λ (b : Built). b.ranges) c.new-builder.ensures),
   ap (λ (b : Built). b.entries ++ c.cursor-cursor.result) c.new-builder.ensures ∙ c.cursor-cursor.ensures ∙ entries_from_all c.args.memory.now.entries,
   ap (λ (b : Built). length b.entries) c.new-builder.ensures,
 )

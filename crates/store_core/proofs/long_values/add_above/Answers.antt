@@ -16,7 +16,7 @@ loop-init c =
     let key = c.args.key.now in
     let entries = c.args.memory.now.entries in
     let from = c.cursor-cursor.ensures in (
-      refl,
+      (refl, refl),
       ap (λ (es : List Entry). c.args.builder.now.entries ++ es) (ap (λ (es : List Entry). entries_above es key) from ∙ above_from key entries),
       omega (arith, ap (λ (es : List Entry). length es) from, from_few entries key),
       subst (AllByRecursion (λ (e : Entry). not (is_before e.key key) ≡ true)) (sym from) (from_begins entries key),
@@ -48,7 +48,7 @@ loop-preserved c =
       | then-ne+in_ok-add-in-Some w ↦
           let unlike = unlike_of c.in-Some.other.now key (sym c.ne.ensures ∙ w.if-ne.true) in
           let new = w.builder-is ∙ w.in_ok-add-in-Some.ensures.added in (
-            ap (λ (b : Built). b.settings) new ∙ c.loop.invariant.0,
+            (ap (λ (b : Built). b.settings) new ∙ c.loop.invariant.0.0, ap (λ (b : Built). b.ranges) new ∙ c.loop.invariant.0.1),
             ap (λ (b : Built). b.entries ++ entries_above rest key) new
                 ∙ added_one c.loop.builder.entries e (entries_above rest key) total (above_added key c.loop.builder.entries e rest total (not_true (is_before e.key key) begins.0) unlike are),
             less,
@@ -57,7 +57,7 @@ loop-preserved c =
           )
       | else-ne w ↦
           let same = same_of c.in-Some.other.now key (sym c.ne.ensures ∙ w.if-ne.false) in (
-            ap (λ (b : Built). b.settings) w.builder-is ∙ c.loop.invariant.0,
+            (ap (λ (b : Built). b.settings) w.builder-is ∙ c.loop.invariant.0.0, ap (λ (b : Built). b.ranges) w.builder-is ∙ c.loop.invariant.0.1),
             ap (λ (b : Built). b.entries ++ entries_above rest key) w.builder-is ∙ above_passed key c.loop.builder.entries e rest total same are,
             less,
             begins.1,

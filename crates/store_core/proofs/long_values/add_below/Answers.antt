@@ -14,7 +14,7 @@ use Rattle.store_core.proofs.long_values.add_below.Goals as goal
 pub loop-init : goal.loop-init
 loop-init c =
     let all = c.cursor-cursor.ensures ∙ entries_from_all c.args.memory.now.entries in (
-      refl,
+      (refl, refl),
       ap (λ (es : List Entry). es ++ c.cursor-cursor.result) c.requires.empty ∙ all,
       ap (λ (es : List Entry). es ++ entries_below c.cursor-cursor.result c.args.key.now) c.requires.empty ∙ ap (λ (es : List Entry). entries_below es c.args.key.now) all,
       omega (arith, ap (λ (es : List Entry). length es) all),
@@ -37,6 +37,6 @@ returns-then-is_ge c =
     let from : is_before c.in-Some.other.now c.args.key.now ≡ false = not_less (byte_order c.in-Some.other.now c.args.key.now) (ap is_ge (sym c.compare.ensures) ∙ sym c.is_ge.ensures ∙ c.if-is_ge.true) in
     let are = subst (λ (es : List Entry). c.loop.builder.entries ++ es ≡ c.args.memory.now.entries) c.in-Some.ensures c.loop.invariant.1 in
     let below = subst (λ (es : List Entry). c.loop.builder.entries ++ entries_below es c.args.key.now ≡ entries_below c.args.memory.now.entries c.args.key.now) c.in-Some.ensures c.loop.invariant.2 in
-    built_as c.loop.builder c.args.builder.now (entries_below c.args.memory.now.entries c.args.key.now) c.loop.invariant.0
+    built_as c.loop.builder c.args.builder.now (entries_below c.args.memory.now.entries c.args.key.now) c.loop.invariant.0.0 c.loop.invariant.0.1
     (below_stopped c.args.key.now c.loop.builder.entries e c.next.new.self (entries_below c.args.memory.now.entries c.args.key.now) from
     (rises_there c.args.memory.now.entries c.loop.builder.entries e c.next.new.self are c.requires.rises) below)

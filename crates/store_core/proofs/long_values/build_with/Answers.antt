@@ -1,4 +1,4 @@
-use Rattle.std.proofs.Common.{◌≡◌, ◌∙◌, ◌++◌, ◌∷◌, ◌≤◌, [], List, length, refl, sym, ap, ap₂, subst, arith}
+use Rattle.std.proofs.Common.{◌≡◌, ◌∙◌, ◌++◌, ◌∷◌, ◌≤◌, [], List, length, refl, sym, ap, subst, arith}
 use Rattle.std.specs.Prelude.{IfOk}
 use Rattle.block_model.specs.Order.{Follow, is_any}
 use Rattle.entry_model.specs.Entries.{Entry, keys_of, put_entry}
@@ -36,4 +36,6 @@ returns g c =
     let all = ap (λ (b : Built). b.entries) c.in_ok-add_above.ensures ∙ ap (λ (es : List Entry). es ++ entries_above entries key) added ∙ between_is entries e c.requires.rises in
     let settings = ap (λ (b : Built). b.settings) c.in_ok-add_above.ensures ∙ ap (λ (b : Built). b.settings) c.in_ok-add.ensures.added ∙ ap (λ (b : Built). b.settings) c.in_ok-add_below.ensures
     ∙ ap (λ (b : Built). b.settings) c.new-builder.ensures in
-    subst (λ (b : Built). IfOk c.finish.result (λ parts. parts ≡ b)) (ap₂ (λ (s : Settings) (es : List Entry). record { settings = s; entries = es }) settings all) c.finish.ensures
+    let none = ap (λ (b : Built). b.ranges) c.in_ok-add_above.ensures ∙ ap (λ (b : Built). b.ranges) c.in_ok-add.ensures.added ∙ ap (λ (b : Built). b.ranges) c.in_ok-add_below.ensures
+    ∙ ap (λ (b : Built). b.ranges) c.new-builder.ensures in
+    subst (λ (b : Built). IfOk c.finish.result (λ parts. parts ≡ b)) (λ i. record { settings = settings i; entries = all i; ranges = none i }) c.finish.ensures

@@ -15,11 +15,11 @@ invariant-loop-rows g l =
     let after = g.D.Disk.world l.disk in
     record {
       way : IsUnderWay g.D.Disk.tells before.seen.held l.tables.tables (option_map (λ v. v.items) l.high) l.fn.rows l.rows before.seen.reads after.seen.reads;
-      passes : IsTrue g.D.Disk.tells → PassSound l.tables.tables before.seen.held l.fn.rows.walks l.rows.walks;
-      goes : IsTrue g.D.Disk.tells → GoesOn l.tables.tables before.seen.held l.fn.rows l.rows;
+      passes : IsTrue g.D.Disk.tells → PassSound l.tables.tables before.seen.held l.fn.rows.merge.walks l.rows.merge.walks;
+      goes : IsTrue g.D.Disk.tells → GoesOn l.tables.tables before.seen.held l.fn.rows.merge l.rows.merge;
       moves : OnlyReads before after;
     }
 
 -- keys rise, and there are not more of them than this
 abbrev pub decreases-loop-rows : goal.decreases-loop-rows
-decreases-loop-rows g l = strings max_key_bytes + 1 - height max_key_bytes l.rows.floor
+decreases-loop-rows g l = strings max_key_bytes + 1 - height max_key_bytes l.rows.merge.floor

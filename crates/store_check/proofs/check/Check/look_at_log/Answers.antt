@@ -29,7 +29,7 @@ returns-clause-same g c spelling first later tells =
     elim c.match-replay.branch [
       | in-Ok w ↦
           let none : waiting new ≡ [] = ap (λ (c : Check). waiting c) w.self-is ∙ c.clear.ensures.items in
-          let found = subst (LogFindings m.version held) (sym none) (spelled area _ page (w.in-Ok.ensures.entries tells)) in
+          let found = subst (LogFindings m.version held) (sym none) (spelled area _ page (w.in-Ok.ensures.changes tells)) in
           at_ok c.match-replay.result _
           (log_was_left old new (ap (λ (c : Check). c.version) w.self-is) (ap (λ (c : Check). c.order) w.self-is) c.requires.stage (ap (λ (c : Check). c.stage) w.self-is) spelling first held m later c.in-Some.is c.requires.none found)
       | in-Err-Memory w ↦ none_at_err c.match-replay.result _ _ w.result-is

@@ -1,19 +1,25 @@
 use Rattle.std.proofs.Common.{◌≡◌, ◌≤◌, ◌+◌, ◌*◌, ◌++◌, ◌∷◌, [], ◌∙◌, refl, sym, ap, subst, arith, true, List}
 use Rattle.std.specs.Prelude.{Option}
 use Rattle.disk_trait.specs.World.{WriteMoves}
-use Rattle.entry_model.specs.Entries.{Entry, IsLogged, entry_of, need}
+use Rattle.entry_model.specs.Entries.{Entry, entry_of, need}
 use Rattle.log_model.proofs.Logs.{all_push}
 use Rattle.log_model.specs.Area.{start_of}
+use Rattle.log_model.specs.Changes.{IsLoggedChange}
 use Rattle.map_model.specs.SortedMap.{Bytes}
+use Rattle.range_model.specs.Sources.{Sets, Source, with_change}
+use Rattle.state_model.specs.View.{in_memory}
 use Rattle.table_model.specs.Tables.{filter_bytes_of}
 use Rattle.store_core.specs.StoreValue.{StoreValue}
 use Rattle.store_core.specs.Represents.{Represents}
 use Rattle.store_core.proofs.Ties.{append_done, append_fails, append_moves, filled_logged}
-use Rattle.store_core.proofs.Recorded.{entries_in}
-use Rattle.entry_model.proofs.Newest.{newest_more}
+use Rattle.store_core.proofs.Recorded.{one_more, same_source}
 use Rattle.entry_model.specs.Newest.{with_entry}
 use Rattle.store_core.proofs.store.Store.append.Goals as goal
 use Rattle.store_core.proofs.store.Store.append.Goals.{in-Some-1, in-None-1}
+
+-- the memory with the entry
+memory_set : (new old : Source) (e : Entry) → new.entries ≡ with_entry old.entries e → new.ranges ≡ old.ranges → new ≡ with_change old (Sets e)
+memory_set new old e set kept = same_source new (with_change old (Sets e)) set kept
 
 -- the entry of its own key and value
 same_entry : (e : Entry) (key : Bytes) (value : Option Bytes) → key ≡ e.key → value ≡ e.value → entry_of key value ≡ e
@@ -22,23 +28,23 @@ same_entry e key value same_key same_value = ap (λ (k : Bytes). entry_of k valu
 pub invariant_of-self : goal.invariant_of-self
 invariant_of-self g c =
     let whole = c.self.invariant.0 in
-    let before = whole.entries in
+    let before = whole.changes in
     let e = c.args.entry in
     let same = same_entry e _ _ c.key.ensures c.value.ensures in
     let fits = subst (λ (k : StoreValue). k.log.filled + need e ≤ 262144) (sym c.self.view_is) c.requires.fits in
     let more = subst (λ (x : Entry). c.append.new.self.filled + 1 ≡ c.self.inside.log.filled + need x) same c.in-Ok.ensures.filled in
-    let filled_is = filled_logged before.entries e c.self.inside.log.filled c.append.new.self.filled before.filled_is more in (
+    let filled_is = filled_logged before.changes e c.self.inside.log.filled c.append.new.self.filled before.filled_is more in (
       record {
         version = whole.version;
         slot = whole.slot;
         rows = whole.rows;
         area = whole.area ∙ ap (λ (n : _). 64 * (n + 1)) (sym c.append.ensures.area);
-        entries = record {
-          entries = before.entries ++ e ∷ [];
-          sound = all_push IsLogged before.entries e before.sound c.requires.sound;
+        changes = record {
+          changes = before.changes ++ Sets e ∷ [];
+          sound = all_push IsLoggedChange before.changes (Sets e) before.sound c.requires.sound;
           fits = omega (arith, filled_is, more, fits);
           filled_is = filled_is;
-          memory_is = c.set.ensures.newest before.entries before.memory_is;
+          memory_is = memory_set _ _ e c.set.ensures.set c.set.ensures.ranges ∙ ap (λ (source : Source). with_change source (Sets e)) before.memory_is ∙ sym (one_more before.changes e);
         };
         job = whole.job;
         numbered = whole.numbered;
@@ -55,9 +61,8 @@ returns-in-Ok-clause-turns g c s tells is =
     let tied = subst (λ (k : StoreValue). Represents spelling bytes k s (g.D.Disk.world c.args.disk.now)) (sym c.self.view_is) is in
     let fits = subst (λ (k : StoreValue). k.log.filled + need e ≤ 262144) (sym c.self.view_is) c.requires.fits in
     append_done c.jobs_are_followed.ensures.image spelling bytes _ s e _ _ _ (same_entry e _ _ c.key.ensures c.value.ensures) tied c.self.invariant.0 fits c.append.ensures.moves _ _ _
-    (c.in-Ok.ensures.crash (entries_in s) tells tied.log) refl refl refl refl c.in-Ok.ensures.filled
-    (c.set.ensures.newest c.self.invariant.0.entries.entries c.self.invariant.0.entries.memory_is ∙ newest_more c.self.invariant.0.entries.entries e
-    ∙ ap (λ (es : List Entry). with_entry es e) (sym c.self.invariant.0.entries.memory_is ∙ tied.memory)) c.requires.sound
+    (c.in-Ok.ensures.crash s.log tells tied.log) refl refl refl refl c.in-Ok.ensures.filled
+    (memory_set _ _ e c.set.ensures.set c.set.ensures.ranges ∙ ap (λ (source : Source). with_change source (Sets e)) (same_source _ (in_memory s) tied.memory tied.ranges)) c.requires.sound
 
 pub returns-in-Ok-clause-moves : goal.returns-in-Ok-clause-moves
 returns-in-Ok-clause-moves g c =
@@ -76,7 +81,7 @@ returns-in-Err-clause-turns g c s tells is =
     let fits = subst (λ (k : StoreValue). k.log.filled + need e ≤ 262144) (sym c.self.view_is) c.requires.fits in
     let stopped : c.match-entry.self.stopped ≡ true = elim c.match-entry.branch [ in-Some-1 w ↦ ap (λ (k : StoreValue). k.stopped) w.self-is | in-None-1 w ↦ ap (λ (k : StoreValue). k.stopped) w.self-is ] in
     append_fails c.jobs_are_followed.ensures.image spelling bytes _ s e _ _ _ (same_entry e _ _ c.key.ensures c.value.ensures) tied c.self.invariant.0 fits c.append.ensures.moves _ _ _
-    (c.in-Err.ensures.crash (entries_in s) tells tied.log) stopped
+    (c.in-Err.ensures.crash s.log tells tied.log) stopped
 
 pub returns-in-Err-clause-moves : goal.returns-in-Err-clause-moves
 returns-in-Err-clause-moves g c =

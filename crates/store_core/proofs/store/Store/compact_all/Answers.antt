@@ -8,6 +8,8 @@ use Rattle.store_core.specs.Scans.{AreAllSound}
 use Rattle.store_core.specs.StoreValue.{StoreValue}
 use Rattle.store_search.proofs.Caches.{numbered_anew, true_anew}
 use Rattle.store_core.proofs.CompactAnswers.{answered_done, answered_failed, compacted_whole, entries_sound, held_by}
+use Rattle.range_model.specs.Sources.{empty_source}
+use Rattle.store_core.proofs.Recorded.{same_source}
 use Rattle.store_core.proofs.Stays.{stopped_or_stays}
 use Rattle.store_core.proofs.store.Store.compact_all.Goals as goal
 
@@ -16,7 +18,7 @@ replace_all-requires-clause-entries g c = entries_sound _ c.self.invariant.0
 
 pub invariant_of-self : goal.invariant_of-self
 invariant_of-self g c = (
-  compacted_whole _ _ c.in-Ok.ensures.whole c.clear.ensures.empty (ap (λ (k : StoreValue). k.job) c.self.view_is ∙ c.requires.none_runs)
+  compacted_whole _ _ c.in-Ok.ensures.whole (same_source _ empty_source c.clear.ensures.empty c.clear.ensures.no_range) (ap (λ (k : StoreValue). k.job) c.self.view_is ∙ c.requires.none_runs)
       (subst (λ (b : Cached). AreNumbered b (length c.in-Ok.done.tables.tables)) (sym (c.renumber.ensures ∙ ap (renumbered c.self.inside.blocks) c.len.ensures))
       (numbered_anew c.self.inside.blocks (length c.self.inside.tables.tables) (length c.in-Ok.done.tables.tables) c.self.invariant.0.numbered)),
   c.self.invariant.1,
@@ -32,7 +34,7 @@ returns-in-Ok-clause-answered g c s tells tied =
     let held = subst (λ (k : StoreValue). IsHeldBy spelling bytes k.manifest k.tables k.memory.entries (without_job s) a) (sym c.self.view_is) (held_by spelling bytes c.args.self.now s a c.requires.none_runs tied) in
     let some = subst (λ (k : StoreValue). (k.memory.entries ≢ []) ⊎ (k.tables ≢ [])) (sym c.self.view_is) c.requires.some in
     answered_done spelling bytes c.args.self.now _ s a b c.requires.none_runs tied (g.met.D.Disk.current c.args.disk.now tells) c.requires.some c.requires.epoch (c.in-Ok.ensures.meanwhile (without_job s) tells held some)
-    (c.in-Ok.ensures.done (without_job s) tells held some) (ap (λ (k : StoreValue). k.job) c.self.view_is ∙ c.requires.none_runs) c.in-Ok.ensures.whole.begun c.clear.ensures.empty
+    (c.in-Ok.ensures.done (without_job s) tells held some) (ap (λ (k : StoreValue). k.job) c.self.view_is ∙ c.requires.none_runs) c.in-Ok.ensures.whole.begun (same_source _ empty_source c.clear.ensures.empty c.clear.ensures.no_range)
     (λ ts. subst (λ (b : Cached). CacheAgrees b c.in-Ok.done.tables.tables ts) (sym (c.renumber.ensures ∙ ap (renumbered c.self.inside.blocks) c.len.ensures))
     (true_anew c.self.inside.blocks (length c.self.inside.tables.tables) c.in-Ok.done.tables.tables ts c.self.invariant.0.numbered))
 

@@ -10,7 +10,7 @@ use Rattle.map_model.specs.SortedMap.{Map}
 use Rattle.merge_rows.proofs.SoundPasses.{pass_same}
 use Rattle.merge_rows.specs.Merges.{TableWalk}
 use Rattle.merge_rows.specs.Reads.{PassSound}
-use Rattle.state_model.specs.Bounds.{seek_bound}
+use Rattle.state_model.specs.Bounds.{tables_between}
 use Rattle.state_model.specs.View.{state_map}
 use Rattle.store_core.proofs.ScanCauses.{reads_on}
 use Rattle.store_core.proofs.ScanCounts.{below_most, counted_all, drop_next, met_any, none_behind, none_crossed, none_pair, scan_count, scan_met, scan_shown, scan_undamaged, some_behind, step_count}
@@ -38,7 +38,7 @@ returns-in_err-scan-clause-shown g c so =
 
 pub returns-in_err-scan-clause-only_if_read : goal.returns-in_err-scan-clause-only_if_read
 returns-in_err-scan-clause-only_if_read g c s so tied =
-    let here = scan_met c.args.self.now.stopped (limit_of (Count c.args.low.now c.args.high.now)) (seek_bound s c.args.low.now c.args.high.now) c.in_err-scan.field-0.0 c.in_err-scan.ensures.refused in
+    let here = scan_met c.args.self.now.stopped (limit_of (Count c.args.low.now c.args.high.now)) (tables_between s c.args.low.now c.args.high.now) c.in_err-scan.field-0.0 c.in_err-scan.ensures.refused in
     search rules
 
 pub returns-in_err-scan-clause-whole : goal.returns-in_err-scan-clause-whole
@@ -115,7 +115,7 @@ returns-in_err-advance-clause-only_if_read g c s so tied =
     let before = g.D.Disk.world c.args.disk.now in
     let seen = seen_as g.F.RangeFilter.spelling (filter_bytes_of g.F.RangeFilter.spelling g.F.RangeFilter.built_cutoff) c.args.self.now s before (g.met.D.Disk.current c.args.disk.now so) tied in
     let some : 1 ≤ opened_tables c.in_ok-scan.scan = omega (arith, c.loop-scan.invariant.sources, c.in_err-advance.ensures.only_if_read.0) in
-    let here = met_any (seek_bound s c.args.low.now c.args.high.now) c.in_err-advance.field-0.0 (c.in_ok-scan.ensures.only_if_read s before.seen.held seen some) in
+    let here = met_any (tables_between s c.args.low.now c.args.high.now) c.in_err-advance.field-0.0 (c.in_ok-scan.ensures.only_if_read s before.seen.held seen some) in
     search rules
 
 pub returns-in_err-advance-clause-whole : goal.returns-in_err-advance-clause-whole

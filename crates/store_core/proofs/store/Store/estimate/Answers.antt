@@ -8,14 +8,14 @@ use Rattle.store_core.proofs.store.Store.estimate.Goals as goal
 
 pub entries_between-in_memory-requires : goal.entries_between-in_memory-requires
 entries_between-in_memory-requires g c = record {
-  rises = memory_rises _ _ c.self.invariant.0.entries;
-  some = omega (arith, memory_few _ _ c.self.invariant.0.entries);
+  rises = memory_rises _ _ c.self.invariant.0.changes;
+  some = omega (arith, memory_few _ _ c.self.invariant.0.changes);
 }
 
 pub overflow_add-result : goal.overflow_add-result
 overflow_add-result g c =
     let few = tables_few _ c.self.invariant.0 in
-    omega (arith, c.entries_between-in_memory.ensures.few, memory_few _ _ c.self.invariant.0.entries, c.tallies.ensures.small, ap length c.as_slice.ensures, few)
+    omega (arith, c.entries_between-in_memory.ensures.few, memory_few _ _ c.self.invariant.0.changes, c.tallies.ensures.small, ap length c.as_slice.ensures, few)
 
 pub returns-clause-answer : goal.returns-clause-answer
 returns-clause-answer g c s image seen =

@@ -24,7 +24,8 @@ use Rattle.store_core.proofs.Plans.{row_free}
 use Rattle.store_core.proofs.Refusals.{fault_due, plan_due, wanted_due}
 use Rattle.store_core.proofs.Stays.{stays_at, stopped_or_stays, tables_stay}
 use Rattle.store_core.proofs.Wholes.{flushed_whole, laid_with, whole_stopped}
-use Rattle.store_core.proofs.Recorded.{no_range_with, shown_only}
+use Rattle.range_model.specs.Sources.{empty_source}
+use Rattle.store_core.proofs.Recorded.{no_range_with, same_source, shown_only}
 use Rattle.store_core.proofs.store.Store.flush_with.Goals as goal
 
 pub plan_flush-requires-clause-rises : goal.plan_flush-requires-clause-rises
@@ -97,7 +98,7 @@ invariant_of-self-in-Ok g c =
       flushed_whole _ _ c.into_table.result c.in_ok-plan.plan.row c.in_ok-plan.plan.next c.self.invariant.0 c.in_ok-plan.ensures.next
           (omega (arith, plan.epoch, ap (λ (m : _). m.version.epoch) plan.next_is)) plan.next_is c.installed.ensures
           (c.insert.ensures.tables ∙ ap (λ (ts : List Opened). c.into_table.result ∷ ts) c.reserve.ensures.tables) (ap (λ (t : Opened). t.row) c.into_table.ensures.table) refl refl free
-          c.in-Ok.ensures.log.1 c.in-Ok.ensures.log.0 c.clear.ensures.empty,
+          c.in-Ok.ensures.log.1 c.in-Ok.ensures.log.0 (same_source _ empty_source c.clear.ensures.empty c.clear.ensures.no_range),
       c.self.invariant.1,
       tt,
     )
@@ -127,7 +128,7 @@ returns-in-Ok-clause-wrote g c s tells tied =
     (subst IsTable are (flushed_table store whole over (over_is_entry c.args.over c.requires.sound) c.requires.some)) replaces c.installed.ensures
     (c.insert.ensures.tables ∙ ap (λ (t : Opened). t ∷ c.reserve.new.self.tables) c.into_table.ensures.table
     ∙ ap (λ (ts : List Opened). opened_of cutoff parts row ∷ ts) (c.reserve.ensures.tables ∙ ap (λ (k : StoreValue). k.tables) c.self.view_is))
-    (ap (λ (k : StoreValue). k.job) c.self.view_is) (ap (λ (k : StoreValue). k.blocks) c.self.view_is) whole c.in-Ok.ensures.log.0 c.clear.ensures.empty)
+    (ap (λ (k : StoreValue). k.job) c.self.view_is) (ap (λ (k : StoreValue). k.blocks) c.self.view_is) whole c.in-Ok.ensures.log.0 (same_source _ empty_source c.clear.ensures.empty c.clear.ensures.no_range))
 
 pub returns-in-Err-clause-wrote : goal.returns-in-Err-clause-wrote
 returns-in-Err-clause-wrote g c s tells tied =

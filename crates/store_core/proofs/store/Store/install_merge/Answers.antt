@@ -100,7 +100,7 @@ invariant_of-self-in-Ok g c =
         slot = subst (λ (m : Manifest). m.slot ≤ 1) (sym c.installed.ensures) (omega arith);
         rows = ap rows_of tables_are ∙ sym (ap (λ (m : Manifest). m.version.rows) c.installed.ensures ∙ ap (λ (m : Manifest). m.version.rows) c.in_ok-next.ensures.next);
         area = ap (λ (m : Manifest). m.version.log_page) c.installed.ensures ∙ ap (λ (m : Manifest). m.version.log_page) c.in_ok-next.ensures.next ∙ whole.area;
-        entries = whole.entries;
+        changes = whole.changes;
         job = subst (λ (running : Option JobValue). MayRunIn c.installed.result.version c.replace_tables.new.tables.tables running) (sym none) tt;
         numbered = subst (λ (b : Cached). AreNumbered b (length c.replace_tables.new.tables.tables)) (sym (c.replace_tables.ensures.blocks ∙ ap (λ (ts : List Opened). renumbered c.self.inside.blocks (length ts)) c.reserve.ensures.tables))
             (numbered_anew c.self.inside.blocks (length c.self.inside.tables.tables) (length c.replace_tables.new.tables.tables) whole.numbered);

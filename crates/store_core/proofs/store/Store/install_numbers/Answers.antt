@@ -48,7 +48,7 @@ invariant_of-self g c =
         slot = subst (λ (m : Manifest). m.slot ≤ 1) (sym c.installed.ensures) (omega arith);
         rows = whole.rows ∙ sym (ap (λ (m : Manifest). m.version.rows) c.installed.ensures ∙ ap (λ (m : Manifest). m.version.rows) c.in_ok-next.ensures.next);
         area = ap (λ (m : Manifest). m.version.log_page) c.installed.ensures ∙ ap (λ (m : Manifest). m.version.log_page) c.in_ok-next.ensures.next ∙ whole.area;
-        entries = whole.entries;
+        changes = whole.changes;
         job = tt;
         numbered = whole.numbered;
       },

@@ -28,10 +28,10 @@ returns-in_err-log-clause-answer g c tells =
 pub returns-clause-answer : goal.returns-clause-answer
 returns-clause-answer g c tells =
     let area = c.version.inside.log_area in
-    let entries = c.in_ok-log.entries.items in
-    parts_answer g.F.RangeFilter.spelling g.F.RangeFilter.first_fault (g.D.Disk.world c.args.disk.now).seen.held c.in_ok-version.version c.in_ok-version.tables.tables c.in_ok-log.log entries area c.of_parts.result
+    let changes = c.in_ok-log.changes.items in
+    parts_answer g.F.RangeFilter.spelling g.F.RangeFilter.first_fault (g.D.Disk.world c.args.disk.now).seen.held c.in_ok-version.version c.in_ok-version.tables.tables c.in_ok-log.log changes area c.of_parts.result
     (c.in_ok-version.ensures.answer tells) (ap (λ (x : Manifest). x.version.log_page) (sym c.version.view_is))
-    (subst (λ (f : Image). LogIs area entries f) c.open_version.ensures.moves.held (c.in_ok-log.ensures.entries tells))
+    (subst (λ (f : Image). LogIs area changes f) c.open_version.ensures.moves.held (c.in_ok-log.ensures.changes tells))
     (ap (λ (p : Position). p.filled) c.in_ok-log.ensures.log) c.of_parts.ensures.store c.of_parts.ensures.memory c.of_parts.ensures.cause
 
 -- ---- of an image that stands for a state

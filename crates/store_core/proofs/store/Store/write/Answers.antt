@@ -21,7 +21,7 @@ use Rattle.store_core.proofs.FlushAnswers.{passed_on, wanted_room}
 use Rattle.store_core.proofs.Refusals.{failure_due, fits_allowed, flush_allowed, flush_due, wanted_entry}
 use Rattle.store_core.proofs.Stays.{flush_stays, room_taken, stopped_stays}
 use Rattle.store_core.proofs.Ties.{short_of_logged}
-use Rattle.store_core.proofs.Writing.{flush_failed, flush_then, need_fits, need_over, never, tied_with, wrote_as, wrote_logged}
+use Rattle.store_core.proofs.Writing.{flush_failed, flush_then, kept_room, need_fits, need_over, never, tied_with, wrote_as, wrote_logged}
 use Rattle.range_model.specs.Sources.{Sets}
 use Rattle.store_core.proofs.Recorded.{entries_in}
 use Rattle.store_core.proofs.store.Store.write.Goals as goal
@@ -31,7 +31,7 @@ returns-in_err-entry-clause-wrote g c s tells tied =
     let spelling = g.F.RangeFilter.spelling in
     let bytes = filter_bytes_of g.F.RangeFilter.spelling g.F.RangeFilter.built_cutoff in
     let w = g.D.Disk.world c.args.disk.now in
-    wanted_room spelling bytes _ s (written bytes s (Sets (entry_of c.args.key.now (value_of c.args.value)))) c.from_residual.result c.reserve_for.new.self w c.from_residual.ensures.1 c.reserve_for.ensures.kept c.self.invariant.0
+    wanted_room spelling bytes _ s (written bytes s (Sets (entry_of c.args.key.now (value_of c.args.value)))) c.from_residual.result c.reserve_for.new.self w c.from_residual.ensures.1 (kept_room c.reserve_for.new.self c.self.inside.memory c.reserve_for.ensures.kept c.reserve_for.ensures.ranges c.reserve_for.ensures.range_spare) c.self.invariant.0
     (subst (λ (k : StoreValue). Represents spelling bytes k s w) (sym c.self.view_is) tied)
 
 -- a test that fails
@@ -53,7 +53,7 @@ returns-then-fits-clause-wrote g c s tells tied =
     let within = subst (λ (n : ℕ). c.self.inside.log.filled + n ≤ 262144) (c.record_need.ensures ∙ sym (ap need same)) (c.fits.ensures.0 c.if-fits.true) in
     wrote_as spelling bytes s e (entry_of c.args.key.now (value_of c.args.value)) c.append.result c.append.new.self old new same
     (wrote_logged spelling bytes s e c.append.result c.append.new.self old new (short_of_logged e (subst IsLogged (sym same) c.requires.sound)) (need_fits c.self.inside.log.filled (need e) (entries_in s) inside.log within) c.append.ensures.failure
-    (c.append.ensures.turns s tells (tied_with spelling bytes _ s old c.reserve_for.new.self c.reserve_for.ensures.kept inside)))
+    (c.append.ensures.turns s tells (tied_with spelling bytes _ s old c.reserve_for.new.self (kept_room c.reserve_for.new.self c.self.inside.memory c.reserve_for.ensures.kept c.reserve_for.ensures.ranges c.reserve_for.ensures.range_spare) inside)))
 
 pub returns-in_err-flush_memory-clause-wrote : goal.returns-in_err-flush_memory-clause-wrote
 returns-in_err-flush_memory-clause-wrote g c s tells tied =
@@ -67,7 +67,7 @@ returns-in_err-flush_memory-clause-wrote g c s tells tied =
     subst (λ (r : Result (Unit {0}) StoreError). WroteEntry spelling bytes s (written bytes s (Sets x)) r c.flush_memory.new.self old new)
     (passed_on c.from_residual-in_err-flush_memory.result c.in_err-flush_memory.field-0.0 c.from_residual-in_err-flush_memory.ensures.1)
     (flush_failed spelling bytes s x (short_of_logged x c.requires.sound) (need_over c.self.inside.log.filled (need x) (entries_in s) inside.log inside.sound.log_fits wide) c.in_err-flush_memory.field-0.0 c.flush_memory.new.self old new
-    (c.in_err-flush_memory.ensures.wrote s tells (tied_with spelling bytes _ s old c.reserve_for.new.self c.reserve_for.ensures.kept inside)))
+    (c.in_err-flush_memory.ensures.wrote s tells (tied_with spelling bytes _ s old c.reserve_for.new.self (kept_room c.reserve_for.new.self c.self.inside.memory c.reserve_for.ensures.kept c.reserve_for.ensures.ranges c.reserve_for.ensures.range_spare) inside)))
 
 pub returns-clause-wrote : goal.returns-clause-wrote
 returns-clause-wrote g c s tells tied =
@@ -84,7 +84,7 @@ returns-clause-wrote g c s tells tied =
     wrote_as spelling bytes s e (entry_of c.args.key.now (value_of c.args.value)) c.append-2.result c.append-2.new.self old new same
     (flush_then spelling bytes s e (short_of_logged e (subst IsLogged (sym same) c.requires.sound)) (need_over c.self.inside.log.filled (need e) (entries_in s) inside.log inside.sound.log_fits wide) c.in_ok-flush_memory.field-0 c.append-2.result
     c.flush_memory.new.self c.append-2.new.self old flushed_at new c.append-2.ensures.failure c.append-2.ensures.stopped
-    (c.in_ok-flush_memory.ensures.wrote s tells (tied_with spelling bytes _ s old c.reserve_for.new.self c.reserve_for.ensures.kept inside))
+    (c.in_ok-flush_memory.ensures.wrote s tells (tied_with spelling bytes _ s old c.reserve_for.new.self (kept_room c.reserve_for.new.self c.self.inside.memory c.reserve_for.ensures.kept c.reserve_for.ensures.ranges c.reserve_for.ensures.range_spare) inside))
     (λ to tied_then. c.append-2.ensures.turns to tells tied_then))
 
 pub returns-clause-moves : goal.returns-clause-moves
@@ -100,7 +100,7 @@ returns-clause-moves g c =
 
 pub returns-in_err-entry-clause-stays : goal.returns-in_err-entry-clause-stays
 returns-in_err-entry-clause-stays g c =
-    room_taken c.from_residual.result _ c.args.self.now c.reserve_for.new.self c.self.view_is c.reserve_for.ensures.kept
+    room_taken c.from_residual.result _ c.args.self.now c.reserve_for.new.self c.self.view_is (kept_room c.reserve_for.new.self c.self.inside.memory c.reserve_for.ensures.kept c.reserve_for.ensures.ranges c.reserve_for.ensures.range_spare)
 
 pub returns-then-fits-clause-stays : goal.returns-then-fits-clause-stays
 returns-then-fits-clause-stays g c =
@@ -110,7 +110,7 @@ pub returns-in_err-flush_memory-clause-stays : goal.returns-in_err-flush_memory-
 returns-in_err-flush_memory-clause-stays g c =
     let result = c.from_residual-in_err-flush_memory.result in
     let why = c.in_err-flush_memory.field-0.0 in
-    flush_stays result why _ c.args.self.now c.flush_memory.new.self c.reserve_for.new.self (passed_on result why c.from_residual-in_err-flush_memory.ensures.1) c.self.view_is c.reserve_for.ensures.kept
+    flush_stays result why _ c.args.self.now c.flush_memory.new.self c.reserve_for.new.self (passed_on result why c.from_residual-in_err-flush_memory.ensures.1) c.self.view_is (kept_room c.reserve_for.new.self c.self.inside.memory c.reserve_for.ensures.kept c.reserve_for.ensures.ranges c.reserve_for.ensures.range_spare)
     c.in_err-flush_memory.ensures.stays
 
 pub returns-clause-stays : goal.returns-clause-stays
