@@ -10,6 +10,8 @@ mod checks;
 #[cfg(test)]
 mod damage;
 #[cfg(test)]
+mod dumps;
+#[cfg(test)]
 mod eight_blocks;
 #[cfg(test)]
 mod formats;
@@ -27,5 +29,7 @@ mod replies;
 mod runs;
 #[cfg(test)]
 mod slices;
+#[cfg(test)]
+mod tables;
 #[cfg(test)]
 mod words;

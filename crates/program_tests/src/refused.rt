@@ -10,8 +10,8 @@ use std::test::Fail;
 type Writes = &'static [(u64, &'static [u8])];
 
 // Slot A's body begins at byte 8, and its sum at byte 72. Of another version, of 511 pages with the sum of these bytes, of 511
-// pages with the sum that stood there; and an open gate of the log before a record of kind 3.
-const EXAMPLES: [(Writes, &[u8]); 4] = [
+// pages with the sum that was there; and an open gate of the log before a record of kind 4, or of a range without an upper bound.
+const EXAMPLES: [(Writes, &[u8]); 5] = [
     (&[(12, b"\x03")], b"damaged manifest 12 rule 2\n"),
     (
         &[(24, b"\xff\x01"), (72, b"\x96\x46\x40\x22\x3b\xf6\xc5\xe9")],
@@ -22,8 +22,12 @@ const EXAMPLES: [(Writes, &[u8]); 4] = [
         b"damaged manifest 8 sum 95f84f65e6c82df8 e9c5f63b22404696\n",
     ),
     (
-        &[(262_144, b"\x01\x03\x01\x00\x00\x00\x00\x00\x61\x00")],
+        &[(262_144, b"\x01\x04\x01\x00\x00\x00\x00\x00\x61\x00")],
         b"damaged log 262144 rule 2\n",
+    ),
+    (
+        &[(262_144, b"\x01\x03\x01\x00\x00\x00\x00\x00\x61\x00")],
+        b"damaged log 262144 rule 3\n",
     ),
 ];
 

@@ -12,7 +12,7 @@ use Rattle.filter_api.specs.declared.settings.Field.{Field}
 use Rattle.filter_api.specs.declared.settings.Field.TheVariants as field
 use Rattle.filter_api.specs.declared.settings.Settings.{Settings}
 use Rattle.key_base.specs.Limits.{max_hash_bits, max_ratio, max_real_bits}
-use Rattle.program_words.specs.Asked.{AreRefusedWords, HasBadNumber, IsCheck, IsFormat, IsGrow, IsHelp, IsLoad, IsLoadInRange, IsServe, IsSettings, IsSettingsInRange, IsSubcommand, OpensStore, OpensWithoutGrowing, is_request, load_of, option_number, wanted_of, wanted_settings_of}
+use Rattle.program_words.specs.Asked.{AreRefusedWords, HasBadNumber, IsCheck, IsDump, IsFormat, IsGrow, IsHelp, IsLoad, IsLoadInRange, IsServe, IsSettings, IsSettingsInRange, IsSubcommand, IsTables, OpensStore, OpensWithoutGrowing, is_request, load_of, option_number, wanted_of, wanted_settings_of}
 use Rattle.program_words.specs.CommandLine.{store_app}
 use Rattle.program_words.specs.Loads.{is_load_count}
 use Rattle.program_words.specs.NewStores.{IsStoreOf, first_bad_word}
@@ -119,6 +119,12 @@ grow_not_bad words pages field is bad = other_not_bad words (codes "grow") field
 pub check_not_bad : (words : List Text) (field : Field) → IsCheck words → HasBadNumber words field → ⊥
 check_not_bad words field is bad = other_not_bad words (codes "check") field refl refl refl refl is bad
 
+pub tables_not_bad : (words : List Text) (field : Field) → IsTables words → HasBadNumber words field → ⊥
+tables_not_bad words field is bad = other_not_bad words (codes "tables") field refl refl refl refl is bad
+
+pub dump_not_bad : (words : List Text) (field : Field) → IsDump words → HasBadNumber words field → ⊥
+dump_not_bad words field is bad = other_not_bad words (codes "dump") field refl refl refl refl is bad
+
 -- of two numbers out of range, the first of one subcommand
 pub same_field : (words : List Text) (x y : Field) → HasBadNumber words x → HasBadNumber words y → x ≡ y
 same_field words x y a b = elim a [
@@ -206,17 +212,28 @@ module _ (words : List Text) where
     ]
   ]
 
-  pub opens_not_check : OpensStore words → IsCheck words → ⊥
-  opens_not_check is check = elim is [
+  -- a subcommand with another name opens no store to write
+  opens_not_other : (x : Text) → bytes_eq x x ≡ true → bytes_eq x (codes "serve") ≡ false → bytes_eq x (codes "load") ≡ false → bytes_eq x (codes "settings") ≡ false → bytes_eq x (codes "grow") ≡ false
+      → OpensStore words → Taken words x → ⊥
+  opens_not_other x own no_serve no_load no_settings no_grow is taken = elim is [
     | inl fits ↦ elim fits [
-      | inl serve ↦ apart words (codes "check") (codes "serve") refl refl check serve
+      | inl serve ↦ apart words x (codes "serve") own no_serve taken serve
       | inr more ↦ elim more [
-        | inl load ↦ apart words (codes "check") (codes "load") refl refl check (load.1.0.0, load.1.0.1)
-        | inr settings ↦ apart words (codes "check") (codes "settings") refl refl check (settings.1.1.0, settings.1.1.1)
+        | inl load ↦ apart words x (codes "load") own no_load taken (load.1.0.0, load.1.0.1)
+        | inr settings ↦ apart words x (codes "settings") own no_settings taken (settings.1.1.0, settings.1.1.1)
       ]
     ]
-    | inr grow ↦ apart words (codes "check") (codes "grow") refl refl check (grow.1.0, grow.1.1)
+    | inr grow ↦ apart words x (codes "grow") own no_grow taken (grow.1.0, grow.1.1)
   ]
+
+  pub opens_not_check : OpensStore words → IsCheck words → ⊥
+  opens_not_check is check = opens_not_other (codes "check") refl refl refl refl refl is check
+
+  pub opens_not_tables : OpensStore words → IsTables words → ⊥
+  opens_not_tables is tables = opens_not_other (codes "tables") refl refl refl refl refl is tables
+
+  pub opens_not_dump : OpensStore words → IsDump words → ⊥
+  opens_not_dump is dump = opens_not_other (codes "dump") refl refl refl refl refl is dump
 
   -- words that are taken and not out of range ask for something
   pub asks_nothing : fault_of store_app words ≡ [] → ((field : Field) → HasBadNumber words field → ⊥) → AreRefusedWords words ⊎ (IsHelp words ⊎ ((field : Field) × HasBadNumber words field)) → ⊥

@@ -77,6 +77,12 @@ IsGrow words pages = (rows : List Row) × IsSubcommand words (codes "grow") rows
 abbrev pub IsCheck : List Text → Type 0
 IsCheck words = (rows : List Row) × IsSubcommand words (codes "check") rows
 
+abbrev pub IsTables : List Text → Type 0
+IsTables words = (rows : List Row) × IsSubcommand words (codes "tables") rows
+
+abbrev pub IsDump : List Text → Type 0
+IsDump words = (rows : List Row) × IsSubcommand words (codes "dump") rows
+
 -- a load that has not too many steps, and settings that are in range
 abbrev pub IsLoadInRange : List Text → Load → Type 0
 IsLoadInRange words load = IsLoad words load × (is_load_count load.count ≡ true)
@@ -116,17 +122,19 @@ WordsAsk words (asked.Load load) = IsLoadInRange words load
 WordsAsk words (asked.Settings settings) = IsSettingsInRange words settings
 WordsAsk words (asked.Grow pages) = IsGrow words pages
 WordsAsk words asked.Check = IsCheck words
+WordsAsk words asked.Tables = IsTables words
+WordsAsk words asked.Dump = IsDump words
 WordsAsk words (asked.Help text) = IsHelp words
 WordsAsk words asked.Refused = AreRefusedWords words
 WordsAsk words asked.Memory = Unit {0}
 
 -- ---- on the way
 
--- a subcommand of the six
+-- a subcommand of the eight
 abbrev pub IsKnown : Option (Text × List Row) → Type 0
 IsKnown None = ⊥
 IsKnown (Some found) =
-    (found.0 ≡ codes "format") ⊎ (found.0 ≡ codes "serve") ⊎ (found.0 ≡ codes "load") ⊎ (found.0 ≡ codes "settings") ⊎ (found.0 ≡ codes "grow") ⊎ (found.0 ≡ codes "check")
+    (found.0 ≡ codes "format") ⊎ (found.0 ≡ codes "serve") ⊎ (found.0 ≡ codes "load") ⊎ (found.0 ≡ codes "settings") ⊎ (found.0 ≡ codes "grow") ⊎ (found.0 ≡ codes "check") ⊎ (found.0 ≡ codes "tables") ⊎ (found.0 ≡ codes "dump")
 
 -- an answer without matches, by its kind; a text that was asked for may have found no memory
 abbrev pub ComesOf : ErrorKind → Asked → Type 0
@@ -137,6 +145,8 @@ ComesOf kind (asked.Load load) = ⊥
 ComesOf kind (asked.Settings settings) = ⊥
 ComesOf kind (asked.Grow pages) = ⊥
 ComesOf kind asked.Check = ⊥
+ComesOf kind asked.Tables = ⊥
+ComesOf kind asked.Dump = ⊥
 ComesOf kind (asked.Help text) = is_request kind ≡ true
 ComesOf kind asked.Refused = (is_request kind ≡ false) × (kind ≢ OutOfMemory)
 ComesOf kind asked.Memory = (kind ≡ OutOfMemory) ⊎ (is_request kind ≡ true)

@@ -35,6 +35,10 @@ pub enum Asked {
     Grow(u64),
     /// That the whole store is read, and what is wrong is said.
     Check,
+    /// That what each table has is said, and what the store has.
+    Tables,
+    /// That each pair is said, as the line that puts it.
+    Dump,
     /// A text: help, or the version.
     Help(String),
     /// Nothing: clap refuses the words.
@@ -117,8 +121,14 @@ fn asked_by(matches: &ArgMatches<'_>) -> Asked
     if let Some(options) = matches.subcommand_matches("grow") {
         return Asked::Grow(number(options, "pages"));
     }
-    match matches.subcommand_matches("check") {
-        Some(_) => Asked::Check,
+    if matches.subcommand_matches("check").is_some() {
+        return Asked::Check;
+    }
+    if matches.subcommand_matches("tables").is_some() {
+        return Asked::Tables;
+    }
+    match matches.subcommand_matches("dump") {
+        Some(_) => Asked::Dump,
         None => Asked::Serve,
     }
 }

@@ -3,7 +3,7 @@ ghost use Rattle.std.specs.Prelude.{◌≡◌, IfOk, codes, false};
 ghost use Rattle.clap.specs.Simple.{app_of, with_rule};
 ghost use Rattle.clap.specs.Walk.{rule_of};
 ghost use Rattle.clap.specs.declared.builder.command.Command.TheViews.{out-Command as fields_of};
-ghost use Rattle.program_words.specs.CommandLine.{check_app, format_app, grow_app, load_app, number_rule, option_rule, required, serve_app, settings_app, store_app, with_default, with_filter_options, with_number_options, with_pages_option};
+ghost use Rattle.program_words.specs.CommandLine.{check_app, dump_app, format_app, grow_app, load_app, number_rule, option_rule, required, serve_app, settings_app, store_app, tables_app, with_default, with_filter_options, with_number_options, with_pages_option};
 
 use clap::{Arg, Command, value_parser};
 use std::alloc::{AllocError, Global};
@@ -21,6 +21,10 @@ const SETTINGS_ABOUT: &str = "Change the filters of new tables; old tables keep 
 const GROW_ABOUT: &str = "Give the store more pages, for good";
 
 const CHECK_ABOUT: &str = "Read the whole store, and say what is wrong with it";
+
+const TABLES_ABOUT: &str = "Say what each table has, and what the store has";
+
+const DUMP_ABOUT: &str = "Say each pair, as the line that puts it";
 
 // What the prompt answers, behind the help of the program and of `serve`.
 const ANSWERS: &str = "\
@@ -124,6 +128,29 @@ nothing is wrong, with status 0: the tables, their entries, the pairs that there
 are, and the records of the log:
   $ surfstore db check
   clean tables 1 entries 1 live 1 log 0";
+
+// What the lines of tables say, behind the help of `tables`.
+const COLUMNS: &str = "\
+It changes nothing. A line for each table, those of level 0 first, the newest
+before the others, then those of each deeper level by rising keys:
+  table LEVEL FIRST PAGES ENTRIES H R RATIO LEAST GREATEST
+FIRST is its first page of 4,096 bytes and PAGES how many it has; H, R and RATIO
+are the hash bits, the real bits and the ratio of its filter; LEAST and GREATEST
+its keys in hex. Then a line for the store:
+  store PAGES FREE GAP EPOCH LOG H R RATIO
+FREE pages are free, GAP of them in one piece; LOG bytes of the log are in use;
+the settings are those of new tables. Example:
+  $ surfstore db tables
+  store 1048576 1048384 1048384 1 0 0 0 64";
+
+// What a dump says, behind the help of `dump`.
+const PAIRS: &str = "\
+It changes nothing. A line for each pair, by rising keys:
+  put K V
+The prompt of another store takes these lines: that is a copy, a way to another
+variant or to more pages, and a backup. At status 4 or 5 the last line is as of
+serve, and the lines before it are those of some first pairs. Example:
+  $ surfstore old dump | surfstore new serve";
 
 // An option with a number of its own, which its help calls by a letter.
 fn number_option<'a>(alloc: Global, name: &'a str, letter: &'a str, help: &'a str) -> Arg<'a>
@@ -294,6 +321,26 @@ fn check_command<'a>(alloc: Global) -> Command<'a>
         .override_usage("surfstore PATH check")
 }
 
+fn tables_command<'a>(alloc: Global) -> Command<'a>
+    ensures app { app_of result ≡ tables_app }
+    ensures local { (fields_of result).has_globals ≡ false }
+{
+    Command::new(alloc, "tables")
+        .about(TABLES_ABOUT)
+        .after_help(COLUMNS)
+        .override_usage("surfstore PATH tables")
+}
+
+fn dump_command<'a>(alloc: Global) -> Command<'a>
+    ensures app { app_of result ≡ dump_app }
+    ensures local { (fields_of result).has_globals ≡ false }
+{
+    Command::new(alloc, "dump")
+        .about(DUMP_ABOUT)
+        .after_help(PAIRS)
+        .override_usage("surfstore PATH dump")
+}
+
 fn load_command<'a>(alloc: Global) -> Result<Command<'a>, AllocError>
     ensures app { IfOk result (λ c. app_of c ≡ load_app) }
     ensures local { IfOk result (λ c. (fields_of c).has_globals ≡ false) }
@@ -333,5 +380,7 @@ pub fn store_command<'a>(alloc: Global) -> Result<Command<'a>, AllocError>
     let with_load = with_serve.subcommand(load)?;
     let with_settings = with_load.subcommand(settings)?;
     let with_grow = with_settings.subcommand(grow)?;
-    with_grow.subcommand(check_command(alloc))
+    let with_check = with_grow.subcommand(check_command(alloc))?;
+    let with_tables = with_check.subcommand(tables_command(alloc))?;
+    with_tables.subcommand(dump_command(alloc))
 }

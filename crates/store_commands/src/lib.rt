@@ -17,6 +17,7 @@
 #![tactic(auto)]
 
 mod parse;
+mod put_line;
 mod reply;
 mod request;
 mod verb;
@@ -25,6 +26,7 @@ mod window;
 mod words;
 
 pub use parse::{Scratch, parse_line};
+pub use put_line::{put_piece, puts_that_are_read};
 pub use reply::{Reply, piece};
 pub use request::{BadLine, Request};
 pub use words::next_line;

@@ -7,8 +7,8 @@ use Rattle.clap.specs.Walk.{Text}
 use Rattle.filter_api.specs.Ranges.{InRange}
 use Rattle.filter_api.specs.declared.settings.Field.{Field}
 use Rattle.filter_api.specs.declared.settings.Settings.{Settings}
-use Rattle.program_words.proofs.Alone.{apart, asks_nothing, check_not_bad, format_not_bad, grow_not_bad, load_not_bad, not_both_ways, not_grow, not_help, number_taken, opens_not_bad, opens_not_check, opens_not_format, opens_taken, same_field, same_load, same_pages, same_settings, same_store, same_wanted, serve_not_bad, settings_in_range, settings_not_bad}
-use Rattle.program_words.specs.Asked.{AreRefusedWords, HasBadNumber, IsCheck, IsFormat, IsGrow, IsHelp, IsLoadInRange, IsServe, IsSettingsInRange, OpensStore, OpensWithoutGrowing, WordsAsk, is_request}
+use Rattle.program_words.proofs.Alone.{apart, asks_nothing, check_not_bad, dump_not_bad, format_not_bad, grow_not_bad, load_not_bad, not_both_ways, not_grow, not_help, number_taken, opens_not_bad, opens_not_check, opens_not_dump, opens_not_format, opens_not_tables, opens_taken, same_field, same_load, same_pages, same_settings, same_store, same_wanted, serve_not_bad, settings_in_range, settings_not_bad, tables_not_bad}
+use Rattle.program_words.specs.Asked.{AreRefusedWords, HasBadNumber, IsCheck, IsDump, IsFormat, IsGrow, IsHelp, IsLoadInRange, IsServe, IsSettingsInRange, IsTables, OpensStore, OpensWithoutGrowing, WordsAsk, is_request}
 use Rattle.program_words.specs.CommandLine.{store_app}
 use Rattle.program_words.specs.NewStores.{IsStoreOf, first_bad_word}
 use Rattle.program_words.specs.declared.asked.Asked.{Asked}
@@ -17,7 +17,7 @@ use Rattle.program_words.specs.declared.load.Load.{Load}
 use Rattle.program_words.specs.declared.new_store.NewStore.{NewStore}
 use Rattle.program_words.specs.declared.new_store.Wanted.{Wanted}
 use Rattle.surf_run.specs.Resetting.{AskFor}
-use Rattle.surf_run.specs.Run.{AskNothing, HasSettingsInRange, IfBadSettings, IfCheck, IfFormat, IfHelp, IfLoad, IfOpens, IfOpensWithoutGrowing, IfRefused, IfReset, IfServe, IfUnserved, IsCheckAsk, IsLoadAsk, IsResetAsk, IsRefusedAsk}
+use Rattle.surf_run.specs.Run.{AskNothing, HasSettingsInRange, IfBadSettings, IfCheck, IfDump, IfFormat, IfHelp, IfLoad, IfOpens, IfOpensWithoutGrowing, IfRefused, IfReset, IfServe, IfTables, IfUnserved, IsCheckAsk, IsLoadAsk, IsResetAsk, IsRefusedAsk}
 use Rattle.surf_run.specs.declared.new_numbers.NewNumbers.{NewNumbers}
 use Rattle.surf_run.specs.declared.new_numbers.NewNumbers.TheVariants as new
 
@@ -30,6 +30,8 @@ module _ (words : List Text) where
   if_serve (asked.Settings settings) P is asks holds = absurd (apart words (codes "serve") (codes "settings") refl refl is (asks.1.0, asks.1.1))
   if_serve (asked.Grow pages) P is asks holds = absurd (apart words (codes "serve") (codes "grow") refl refl is (asks.0, asks.1))
   if_serve asked.Check P is asks holds = absurd (apart words (codes "serve") (codes "check") refl refl is asks)
+  if_serve asked.Tables P is asks holds = absurd (apart words (codes "serve") (codes "tables") refl refl is asks)
+  if_serve asked.Dump P is asks holds = absurd (apart words (codes "serve") (codes "dump") refl refl is asks)
   if_serve asked.Memory P is asks holds = holds
   if_serve (asked.Format store) P is asks holds = absurd (apart words (codes "serve") (codes "format") refl refl is (asks.1.0, asks.1.1))
   if_serve (asked.BadSettings field) P is asks holds = absurd (serve_not_bad words field is asks)
@@ -42,6 +44,8 @@ module _ (words : List Text) where
   if_load (asked.Settings settings) load P Q is asks holds starved = absurd (apart words (codes "load") (codes "settings") refl refl (is.0.0, is.0.1) (asks.1.0, asks.1.1))
   if_load (asked.Grow pages) load P Q is asks holds starved = absurd (apart words (codes "load") (codes "grow") refl refl (is.0.0, is.0.1) (asks.0, asks.1))
   if_load asked.Check load P Q is asks holds starved = absurd (apart words (codes "load") (codes "check") refl refl (is.0.0, is.0.1) asks)
+  if_load asked.Tables load P Q is asks holds starved = absurd (apart words (codes "load") (codes "tables") refl refl (is.0.0, is.0.1) asks)
+  if_load asked.Dump load P Q is asks holds starved = absurd (apart words (codes "load") (codes "dump") refl refl (is.0.0, is.0.1) asks)
   if_load asked.Memory load P Q is asks holds starved = starved holds
   if_load (asked.Format store) load P Q is asks holds starved = absurd (apart words (codes "load") (codes "format") refl refl (is.0.0, is.0.1) (asks.1.0, asks.1.1))
   if_load (asked.BadSettings field) load P Q is asks holds starved = absurd (load_not_bad words load field is asks)
@@ -54,6 +58,8 @@ module _ (words : List Text) where
   if_settings (asked.Settings made) settings P Q is asks holds starved = subst (λ (t : Settings). P (new.Settings t)) (same_settings words made settings asks is) holds
   if_settings (asked.Grow pages) settings P Q is asks holds starved = absurd (apart words (codes "settings") (codes "grow") refl refl (is.1.0, is.1.1) (asks.0, asks.1))
   if_settings asked.Check settings P Q is asks holds starved = absurd (apart words (codes "settings") (codes "check") refl refl (is.1.0, is.1.1) asks)
+  if_settings asked.Tables settings P Q is asks holds starved = absurd (apart words (codes "settings") (codes "tables") refl refl (is.1.0, is.1.1) asks)
+  if_settings asked.Dump settings P Q is asks holds starved = absurd (apart words (codes "settings") (codes "dump") refl refl (is.1.0, is.1.1) asks)
   if_settings asked.Memory settings P Q is asks holds starved = starved holds
   if_settings (asked.Format store) settings P Q is asks holds starved = absurd (apart words (codes "settings") (codes "format") refl refl (is.1.0, is.1.1) (asks.1.0, asks.1.1))
   if_settings (asked.BadSettings field) settings P Q is asks holds starved = absurd (settings_not_bad words settings field is asks)
@@ -66,6 +72,8 @@ module _ (words : List Text) where
   if_grow (asked.Settings settings) pages P Q is asks holds starved = absurd (apart words (codes "grow") (codes "settings") refl refl (is.0, is.1) (asks.1.0, asks.1.1))
   if_grow (asked.Grow made) pages P Q is asks holds starved = subst (λ (n : ℕ). P (new.Pages n)) (same_pages words made pages asks is) holds
   if_grow asked.Check pages P Q is asks holds starved = absurd (apart words (codes "grow") (codes "check") refl refl (is.0, is.1) asks)
+  if_grow asked.Tables pages P Q is asks holds starved = absurd (apart words (codes "grow") (codes "tables") refl refl (is.0, is.1) asks)
+  if_grow asked.Dump pages P Q is asks holds starved = absurd (apart words (codes "grow") (codes "dump") refl refl (is.0, is.1) asks)
   if_grow asked.Memory pages P Q is asks holds starved = starved holds
   if_grow (asked.Format store) pages P Q is asks holds starved = absurd (apart words (codes "grow") (codes "format") refl refl (is.0, is.1) (asks.1.0, asks.1.1))
   if_grow (asked.BadSettings field) pages P Q is asks holds starved = absurd (grow_not_bad words pages field is asks)
@@ -82,6 +90,8 @@ module _ (words : List Text) where
   if_opens (asked.Settings settings) P is asks holds = holds
   if_opens (asked.Grow pages) P is asks holds = holds
   if_opens asked.Check P is asks holds = absurd (opens_not_check words is asks)
+  if_opens asked.Tables P is asks holds = absurd (opens_not_tables words is asks)
+  if_opens asked.Dump P is asks holds = absurd (opens_not_dump words is asks)
   if_opens asked.Memory P is asks holds = holds
   if_opens (asked.Format store) P is asks holds = absurd (opens_not_format words asks.0 is asks.1)
   if_opens (asked.BadSettings field) P is asks holds = absurd (opens_not_bad words field is asks)
@@ -94,6 +104,8 @@ module _ (words : List Text) where
   if_opens_without_growing (asked.Settings settings) P is asks holds = holds
   if_opens_without_growing (asked.Grow pages) P is asks holds = absurd (not_grow words pages is asks)
   if_opens_without_growing asked.Check P is asks holds = absurd (opens_not_check words (inl is) asks)
+  if_opens_without_growing asked.Tables P is asks holds = absurd (opens_not_tables words (inl is) asks)
+  if_opens_without_growing asked.Dump P is asks holds = absurd (opens_not_dump words (inl is) asks)
   if_opens_without_growing asked.Memory P is asks holds = holds
   if_opens_without_growing (asked.Format store) P is asks holds = absurd (opens_not_format words asks.0 (inl is) asks.1)
   if_opens_without_growing (asked.BadSettings field) P is asks holds = absurd (opens_not_bad words field (inl is) asks)
@@ -106,11 +118,41 @@ module _ (words : List Text) where
   if_check (asked.Settings settings) P is asks holds = absurd (apart words (codes "check") (codes "settings") refl refl is (asks.1.0, asks.1.1))
   if_check (asked.Grow pages) P is asks holds = absurd (apart words (codes "check") (codes "grow") refl refl is (asks.0, asks.1))
   if_check asked.Check P is asks holds = holds
+  if_check asked.Tables P is asks holds = absurd (apart words (codes "check") (codes "tables") refl refl is asks)
+  if_check asked.Dump P is asks holds = absurd (apart words (codes "check") (codes "dump") refl refl is asks)
   if_check asked.Memory P is asks holds = holds
   if_check (asked.Format store) P is asks holds = absurd (apart words (codes "check") (codes "format") refl refl is (asks.1.0, asks.1.1))
   if_check (asked.BadSettings field) P is asks holds = absurd (check_not_bad words field is asks)
   if_check (asked.Help text) P is asks holds = absurd (not_help words is.1.taken asks)
   if_check asked.Refused P is asks holds = absurd (asks.fails is.1.taken)
+
+  pub if_tables : (a : Asked) (P : Type 0) → IsTables words → WordsAsk words a → IfTables a P → P
+  if_tables asked.Serve P is asks holds = absurd (apart words (codes "tables") (codes "serve") refl refl is asks)
+  if_tables (asked.Load load) P is asks holds = absurd (apart words (codes "tables") (codes "load") refl refl is (asks.0.0, asks.0.1))
+  if_tables (asked.Settings settings) P is asks holds = absurd (apart words (codes "tables") (codes "settings") refl refl is (asks.1.0, asks.1.1))
+  if_tables (asked.Grow pages) P is asks holds = absurd (apart words (codes "tables") (codes "grow") refl refl is (asks.0, asks.1))
+  if_tables asked.Check P is asks holds = absurd (apart words (codes "tables") (codes "check") refl refl is asks)
+  if_tables asked.Tables P is asks holds = holds
+  if_tables asked.Dump P is asks holds = absurd (apart words (codes "tables") (codes "dump") refl refl is asks)
+  if_tables asked.Memory P is asks holds = holds
+  if_tables (asked.Format store) P is asks holds = absurd (apart words (codes "tables") (codes "format") refl refl is (asks.1.0, asks.1.1))
+  if_tables (asked.BadSettings field) P is asks holds = absurd (tables_not_bad words field is asks)
+  if_tables (asked.Help text) P is asks holds = absurd (not_help words is.1.taken asks)
+  if_tables asked.Refused P is asks holds = absurd (asks.fails is.1.taken)
+
+  pub if_dump : (a : Asked) (P : Type 0) → IsDump words → WordsAsk words a → IfDump a P → P
+  if_dump asked.Serve P is asks holds = absurd (apart words (codes "dump") (codes "serve") refl refl is asks)
+  if_dump (asked.Load load) P is asks holds = absurd (apart words (codes "dump") (codes "load") refl refl is (asks.0.0, asks.0.1))
+  if_dump (asked.Settings settings) P is asks holds = absurd (apart words (codes "dump") (codes "settings") refl refl is (asks.1.0, asks.1.1))
+  if_dump (asked.Grow pages) P is asks holds = absurd (apart words (codes "dump") (codes "grow") refl refl is (asks.0, asks.1))
+  if_dump asked.Check P is asks holds = absurd (apart words (codes "dump") (codes "check") refl refl is asks)
+  if_dump asked.Tables P is asks holds = absurd (apart words (codes "dump") (codes "tables") refl refl is asks)
+  if_dump asked.Dump P is asks holds = holds
+  if_dump asked.Memory P is asks holds = holds
+  if_dump (asked.Format store) P is asks holds = absurd (apart words (codes "dump") (codes "format") refl refl is (asks.1.0, asks.1.1))
+  if_dump (asked.BadSettings field) P is asks holds = absurd (dump_not_bad words field is asks)
+  if_dump (asked.Help text) P is asks holds = absurd (not_help words is.1.taken asks)
+  if_dump asked.Refused P is asks holds = absurd (asks.fails is.1.taken)
 
   pub if_refused : (a : Asked) (P : Type 0) → AreRefusedWords words → WordsAsk words a → IfRefused a P → P
   if_refused asked.Serve P is asks holds = absurd (is.fails asks.1.taken)
@@ -118,6 +160,8 @@ module _ (words : List Text) where
   if_refused (asked.Settings settings) P is asks holds = absurd (is.fails asks.1.1.taken)
   if_refused (asked.Grow pages) P is asks holds = absurd (is.fails asks.1.taken)
   if_refused asked.Check P is asks holds = absurd (is.fails asks.1.taken)
+  if_refused asked.Tables P is asks holds = absurd (is.fails asks.1.taken)
+  if_refused asked.Dump P is asks holds = absurd (is.fails asks.1.taken)
   if_refused asked.Memory P is asks holds = holds
   if_refused (asked.Format store) P is asks holds = absurd (is.fails asks.1.1.taken)
   if_refused (asked.BadSettings field) P is asks holds = absurd (is.fails (number_taken words field asks))
@@ -130,6 +174,8 @@ module _ (words : List Text) where
   if_help (asked.Settings settings) P is asks holds = absurd (not_help words asks.1.1.taken is)
   if_help (asked.Grow pages) P is asks holds = absurd (not_help words asks.1.taken is)
   if_help asked.Check P is asks holds = absurd (not_help words asks.1.taken is)
+  if_help asked.Tables P is asks holds = absurd (not_help words asks.1.taken is)
+  if_help asked.Dump P is asks holds = absurd (not_help words asks.1.taken is)
   if_help asked.Memory P is asks holds = holds
   if_help (asked.Format store) P is asks holds = absurd (not_help words asks.1.1.taken is)
   if_help (asked.BadSettings field) P is asks holds = absurd (not_help words (number_taken words field asks) is)
@@ -143,6 +189,8 @@ module _ (words : List Text) where
   if_format (asked.Settings settings) wanted store P Q is good of asks holds starved = absurd (opens_not_format words wanted (inl (inr (inr (settings, asks)))) is)
   if_format (asked.Grow pages) wanted store P Q is good of asks holds starved = absurd (opens_not_format words wanted (inr (pages, asks)) is)
   if_format asked.Check wanted store P Q is good of asks holds starved = absurd (apart words (codes "format") (codes "check") refl refl (is.0, is.1) asks)
+  if_format asked.Tables wanted store P Q is good of asks holds starved = absurd (apart words (codes "format") (codes "tables") refl refl (is.0, is.1) asks)
+  if_format asked.Dump wanted store P Q is good of asks holds starved = absurd (apart words (codes "format") (codes "dump") refl refl (is.0, is.1) asks)
   if_format asked.Memory wanted store P Q is good of asks holds starved = starved holds
   if_format (asked.Format made) wanted store P Q is good of asks holds starved =
       let same = same_wanted words asks.0 wanted asks.1 is in
@@ -157,6 +205,8 @@ module _ (words : List Text) where
   if_bad (asked.Settings settings) field P Q bad asks holds starved = absurd (settings_not_bad words settings field asks bad)
   if_bad (asked.Grow pages) field P Q bad asks holds starved = absurd (grow_not_bad words pages field asks bad)
   if_bad asked.Check field P Q bad asks holds starved = absurd (check_not_bad words field asks bad)
+  if_bad asked.Tables field P Q bad asks holds starved = absurd (tables_not_bad words field asks bad)
+  if_bad asked.Dump field P Q bad asks holds starved = absurd (dump_not_bad words field asks bad)
   if_bad asked.Memory field P Q bad asks holds starved = starved holds
   if_bad (asked.Format made) field P Q bad asks holds starved = absurd (format_not_bad words asks.0 field asks.1 asks.2 bad)
   if_bad (asked.BadSettings other) field P Q bad asks holds starved = subst P (same_field words other field asks bad) holds
@@ -169,6 +219,8 @@ module _ (words : List Text) where
   if_nothing (asked.Settings settings) P is asks holds = absurd (asks_nothing words asks.1.1.taken (λ field bad. settings_not_bad words settings field asks bad) is)
   if_nothing (asked.Grow pages) P is asks holds = absurd (asks_nothing words asks.1.taken (λ field bad. grow_not_bad words pages field asks bad) is)
   if_nothing asked.Check P is asks holds = absurd (asks_nothing words asks.1.taken (λ field bad. check_not_bad words field asks bad) is)
+  if_nothing asked.Tables P is asks holds = absurd (asks_nothing words asks.1.taken (λ field bad. tables_not_bad words field asks bad) is)
+  if_nothing asked.Dump P is asks holds = absurd (asks_nothing words asks.1.taken (λ field bad. dump_not_bad words field asks bad) is)
   if_nothing asked.Memory P is asks holds = holds
   if_nothing (asked.Format made) P is asks holds = absurd (asks_nothing words asks.1.1.taken (λ field bad. format_not_bad words asks.0 field asks.1 asks.2 bad) is)
   if_nothing (asked.BadSettings field) P is asks holds = holds
@@ -181,6 +233,8 @@ module _ (words : List Text) where
   is_refused (asked.Settings settings) asks is = absurd is
   is_refused (asked.Grow pages) asks is = absurd is
   is_refused asked.Check asks is = absurd is
+  is_refused asked.Tables asks is = absurd is
+  is_refused asked.Dump asks is = absurd is
   is_refused asked.Memory asks is = absurd is
   is_refused (asked.Format store) asks is = absurd is
   is_refused (asked.BadSettings field) asks is = absurd is
@@ -193,6 +247,8 @@ module _ (words : List Text) where
   is_load (asked.Settings settings) asks is = absurd is
   is_load (asked.Grow pages) asks is = absurd is
   is_load asked.Check asks is = absurd is
+  is_load asked.Tables asks is = absurd is
+  is_load asked.Dump asks is = absurd is
   is_load asked.Memory asks is = absurd is
   is_load (asked.Format store) asks is = absurd is
   is_load (asked.BadSettings field) asks is = absurd is
@@ -205,6 +261,8 @@ module _ (words : List Text) where
   is_reset (asked.Settings settings) asks is = (new.Settings settings, asks)
   is_reset (asked.Grow pages) asks is = (new.Pages pages, asks)
   is_reset asked.Check asks is = absurd is
+  is_reset asked.Tables asks is = absurd is
+  is_reset asked.Dump asks is = absurd is
   is_reset asked.Memory asks is = absurd is
   is_reset (asked.Format store) asks is = absurd is
   is_reset (asked.BadSettings field) asks is = absurd is
@@ -217,6 +275,8 @@ module _ (words : List Text) where
   is_check (asked.Settings settings) asks is = absurd is
   is_check (asked.Grow pages) asks is = absurd is
   is_check asked.Check asks is = asks
+  is_check asked.Tables asks is = absurd is
+  is_check asked.Dump asks is = absurd is
   is_check asked.Memory asks is = absurd is
   is_check (asked.Format store) asks is = absurd is
   is_check (asked.BadSettings field) asks is = absurd is
@@ -229,6 +289,8 @@ module _ (words : List Text) where
   has_settings_in_range (asked.Settings settings) asks = settings_in_range asks.0 settings asks.2 asks.3
   has_settings_in_range (asked.Grow pages) asks = tt
   has_settings_in_range asked.Check asks = tt
+  has_settings_in_range asked.Tables asks = tt
+  has_settings_in_range asked.Dump asks = tt
   has_settings_in_range asked.Memory asks = tt
   has_settings_in_range (asked.Format store) asks = tt
   has_settings_in_range (asked.BadSettings field) asks = tt
@@ -317,6 +379,18 @@ grow_opens_so a pages P is = subst (λ (b : Asked). IfOpensWithoutGrowing b P) (
 
 pub at_check : (a : Asked) (P : Type 0) → a ≡ asked.Check → P → IfCheck a P
 at_check a P is p = subst (λ (b : Asked). IfCheck b P) (sym is) p
+
+pub at_tables : (a : Asked) (P : Type 0) → a ≡ asked.Tables → P → IfTables a P
+at_tables a P is p = subst (λ (b : Asked). IfTables b P) (sym is) p
+
+pub at_dump : (a : Asked) (P : Type 0) → a ≡ asked.Dump → P → IfDump a P
+at_dump a P is p = subst (λ (b : Asked). IfDump b P) (sym is) p
+
+pub memory_tables : (a : Asked) (P : Type 0) → a ≡ asked.Memory → P → IfTables a P
+memory_tables a P is p = subst (λ (b : Asked). IfTables b P) (sym is) p
+
+pub memory_dump : (a : Asked) (P : Type 0) → a ≡ asked.Memory → P → IfDump a P
+memory_dump a P is p = subst (λ (b : Asked). IfDump b P) (sym is) p
 
 pub memory_check : (a : Asked) (P : Type 0) → a ≡ asked.Memory → P → IfCheck a P
 memory_check a P is p = subst (λ (b : Asked). IfCheck b P) (sym is) p

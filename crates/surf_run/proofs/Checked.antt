@@ -29,12 +29,11 @@ use Rattle.store_check.specs.declared.error.CheckError.{CheckError}
 use Rattle.store_check.specs.declared.error.CheckError.TheVariants as error
 use Rattle.store_check.specs.declared.summary.Summary.{Summary}
 use Rattle.store_check.proofs.Told.{left_is_told}
-use Rattle.surf_run.specs.Checks.{AreFound, ChangesNothing, CheckEnds, CheckedSoFar, HasFindings, HasState, IsCheckText, IsChecking, IsCutOff, clean_text, counted, cut_off_status, cut_off_text, finding_text, findings_text, found_text}
+use Rattle.surf_run.specs.Checks.{AreFound, ChangesNothing, CheckEnds, CheckedSoFar, HasFindings, HasState, HoldsEntries, IsCheckText, IsChecking, IsCutOff, clean_text, counted, cut_off_status, cut_off_text, finding_text, findings_text, found_text}
 use Rattle.surf_run.specs.Loads.{IsLoading}
 use Rattle.surf_run.specs.Open.{no_store_text}
 use Rattle.surf_run.specs.Resetting.{IsResetting}
 use Rattle.table_file.specs.Faults.{filter_fault_of}
-use Rattle.table_model.specs.Damage.{IsOfBytes}
 
 -- ---- nothing changes
 
@@ -145,9 +144,9 @@ reset_never_twelve status is other = elim is [
 -- ---- what comes of what
 
 module _ (spelling : Spelling) (first_fault : Bytes → Fault) (one : SpellsOne spelling) where
-  module _ (image : Image) (bytes : IsOfBytes image) where
+  module _ (image : Image) (bytes : HoldsEntries spelling first_fault image) where
     none_found : HasState spelling image → AreFound spelling first_fault image []
-    none_found state = (no_finding_is_state spelling (filter_fault_of first_fault) image bytes).1 state
+    none_found state = ((no_finding_is_state spelling (filter_fault_of first_fault) image bytes.bytes).1 state).0
 
     not_wrong : HasState spelling image → HasFindings spelling first_fault image → ⊥
     not_wrong state found = found.2 (one_list_of_findings spelling (filter_fault_of first_fault) image found.0 [] one found.1 (none_found state))
@@ -160,10 +159,10 @@ module _ (spelling : Spelling) (first_fault : Bytes → Fault) (one : SpellsOne 
 
   -- what a check tells, by what its status says
   pub check_ends : (tells output : Bool) (status : ℕ) (old new : World)
-      → (IsTrue tells → IsTrue output → IsOfBytes old.seen.held → LastLine (IsCheckText spelling first_fault old.seen.held) status old new)
-      → (IsTrue tells → IsOfBytes old.seen.held → status ≡ 0 → HasState spelling old.seen.held)
-      → (IsTrue tells → IsOfBytes old.seen.held → status ≡ 12 → HasFindings spelling first_fault old.seen.held)
-      → (IsTrue tells → IsOfBytes old.seen.held → status ≡ 8 → IsNoStore old.seen.held)
+      → (IsTrue tells → IsTrue output → HoldsEntries spelling first_fault old.seen.held → LastLine (IsCheckText spelling first_fault old.seen.held) status old new)
+      → (IsTrue tells → HoldsEntries spelling first_fault old.seen.held → status ≡ 0 → HasState spelling old.seen.held)
+      → (IsTrue tells → HoldsEntries spelling first_fault old.seen.held → status ≡ 12 → HasFindings spelling first_fault old.seen.held)
+      → (IsTrue tells → HoldsEntries spelling first_fault old.seen.held → status ≡ 8 → IsNoStore old.seen.held)
       → (status ≡ 4 → Rose old.seen.read_faults new.seen.read_faults) → (status ≡ 6 → SayFailed old new) → IsChecking status → ChangesNothing old new
       → CheckEnds spelling first_fault tells output status old new
   check_ends tells output status old new checked clean wrong no_store reads saying is changes = record {
@@ -250,7 +249,7 @@ module _ (spelling : Spelling) (first_fault : Bytes → Fault) (one : SpellsOne 
   Text status text = IsCheckText spelling first_fault first.seen.held status text
 
   abbrev Observed : Type 0 → Type 0
-  Observed Holds = IsTrue tells → IsOfBytes first.seen.held → Holds
+  Observed Holds = IsTrue tells → HoldsEntries spelling first_fault first.seen.held → Holds
 
   pub further : (text : Bytes) → IsTrue output → SaysPrefix text old.beside.said new.beside.said → SaysPrefix (findings_text given ++ text) first.beside.said new.beside.said
   further text told p = record {
@@ -275,7 +274,7 @@ module _ (spelling : Spelling) (first_fault : Bytes → Fault) (one : SpellsOne 
   )
 
   -- a check that ends with this line
-  ends_by : (status meant : ℕ) (text : Bytes) → SaysLast output meant text status old new → IsChecking meant → (meant ≡ 6 → ⊥) → (IsTrue tells → IsTrue output → IsOfBytes first.seen.held → Text meant (findings_text given ++ text))
+  ends_by : (status meant : ℕ) (text : Bytes) → SaysLast output meant text status old new → IsChecking meant → (meant ≡ 6 → ⊥) → (IsTrue tells → IsTrue output → HoldsEntries spelling first_fault first.seen.held → Text meant (findings_text given ++ text))
       → (meant ≡ 0 → Observed (HasState spelling first.seen.held)) → (meant ≡ 12 → Observed (HasFindings spelling first_fault first.seen.held)) → (meant ≡ 8 → Observed (IsNoStore first.seen.held))
       → (meant ≡ 4 → Rose first.seen.read_faults new.seen.read_faults)
       → CheckEnds spelling first_fault tells output status first new
@@ -291,7 +290,7 @@ module _ (spelling : Spelling) (first_fault : Bytes → Fault) (one : SpellsOne 
       (changes_on first old new changes (changes_say old new says.moves))
 
   -- the line of one finding more could not be said whole
-  pub line_ends : (f : Finding) → (IsTrue output → SaysPrefix (finding_text f) old.beside.said new.beside.said) → SayFailed old new → SayMoves old new → (IsTrue tells → IsOfBytes first.seen.held → (later : List Finding) × AreFound spelling first_fault first.seen.held (given ++ f ∷ later))
+  pub line_ends : (f : Finding) → (IsTrue output → SaysPrefix (finding_text f) old.beside.said new.beside.said) → SayFailed old new → SayMoves old new → (IsTrue tells → HoldsEntries spelling first_fault first.seen.held → (later : List Finding) × AreFound spelling first_fault first.seen.held (given ++ f ∷ later))
       → CheckEnds spelling first_fault tells output 6 first new
   line_ends f prefix failed moves all =
       check_ends spelling first_fault one tells output 6 first new
@@ -320,7 +319,7 @@ module _ (spelling : Spelling) (first_fault : Bytes → Fault) (one : SpellsOne 
 
   -- it was cut off, or there is no store
   pub cut_ends : (why : CheckError) (status : ℕ) → SaysLast output (cut_off_status why) (cut_off_text why) status old new
-      → (IsTrue tells → IsTrue output → IsOfBytes first.seen.held → Text (cut_off_status why) (findings_text given ++ cut_off_text why))
+      → (IsTrue tells → IsTrue output → HoldsEntries spelling first_fault first.seen.held → Text (cut_off_status why) (findings_text given ++ cut_off_text why))
       → (why ≡ error.NotAStore → Observed (IsNoStore first.seen.held)) → HasCause first old why
       → CheckEnds spelling first_fault tells output status first new
   cut_ends error.Memory status says is none cause =
@@ -337,7 +336,7 @@ module _ (spelling : Spelling) (first_fault : Bytes → Fault) (one : SpellsOne 
       → CheckEnds spelling first_fault tells output status first new
   clean_ends has status says nothing all summary =
       let text = clean_text has.tables has.entries has.live has.log in
-      let state : Observed (HasState spelling first.seen.held) = λ told bytes. (no_finding_is_state spelling (filter_fault_of first_fault) first.seen.held bytes).0 (all told) in
+      let state : Observed (HasState spelling first.seen.held) = λ told bytes. (no_finding_is_state spelling (filter_fault_of first_fault) first.seen.held bytes.bytes).0 (all told, bytes.entries (all told)) in
       ends_by status 0 text says (inl refl) (λ e. cc)
       (λ told heard bytes.
       let s = state told bytes in
@@ -392,9 +391,9 @@ module _ (spelling : Spelling) (first_fault : Bytes → Fault) (tells output : B
       (so.left [] told (subst (λ (image : Image). AreLeft spelling first_fault image check []) so.changes.held (none told (here told))))
 
   -- some list goes on what was given
-  pub goes_on : IsDecided spelling → IsTrue tells → IsOfBytes first.seen.held → (later : List Finding) × AreFound spelling first_fault first.seen.held (given ++ later)
+  pub goes_on : IsDecided spelling → IsTrue tells → HoldsEntries spelling first_fault first.seen.held → (later : List Finding) × AreFound spelling first_fault first.seen.held (given ++ later)
   goes_on decided told bytes =
-      let later = left_is_told spelling first_fault first.seen.held decided bytes check (so.of told) in
+      let later = left_is_told spelling first_fault first.seen.held decided bytes.bytes check (so.of told) in
       (later.0, so.left later.0 told later.1)
 
   module _ (new : Check) (f : Finding) (of : IsTrue tells → IsCheckOf old.seen.held check → IsCheckOf old.seen.held new)
@@ -408,9 +407,9 @@ module _ (spelling : Spelling) (first_fault : Bytes → Fault) (tells output : B
         (subst (λ (image : Image). AreLeft spelling first_fault image check (f ∷ later)) so.changes.held
         (gives later told (here told) (subst (λ (image : Image). AreLeft spelling first_fault image new later) (sym so.changes.held) left)))
 
-    pub goes_on_after : IsDecided spelling → IsTrue tells → IsOfBytes first.seen.held → (later : List Finding) × AreFound spelling first_fault first.seen.held (given ++ f ∷ later)
+    pub goes_on_after : IsDecided spelling → IsTrue tells → HoldsEntries spelling first_fault first.seen.held → (later : List Finding) × AreFound spelling first_fault first.seen.held (given ++ f ∷ later)
     goes_on_after decided told bytes =
-        let later = left_is_told spelling first_fault first.seen.held decided bytes new (new_of told) in
+        let later = left_is_told spelling first_fault first.seen.held decided bytes.bytes new (new_of told) in
         (later.0, new_left later.0 told later.1)
 
     pub so_on : (end : World) → (IsTrue output → end.beside.said ≡ mid.beside.said ++ finding_text f) → SayMoves mid end → CheckedSoFar spelling first_fault tells output new (given ++ f ∷ []) first end
@@ -463,9 +462,9 @@ module _ (spelling : Spelling) (first_fault : Bytes → Fault) (one : SpellsOne 
 
   -- an observable device of bytes has not changed
   module _ (all : IsTrue tells → AreFound spelling first_fault first.seen.held []) (damaged : (s : State) → IsTrue tells → IsStateOf spelling s old.seen.held → ⊥) where
-    never : IsTrue tells → IsOfBytes first.seen.held → ⊥
+    never : IsTrue tells → HoldsEntries spelling first_fault first.seen.held → ⊥
     never told bytes =
-        let state = (no_finding_is_state spelling (filter_fault_of first_fault) first.seen.held bytes).0 (all told) in
+        let state = (no_finding_is_state spelling (filter_fault_of first_fault) first.seen.held bytes.bytes).0 (all told, bytes.entries (all told)) in
         damaged state.0 told (subst (λ (image : Image). IsStateOf spelling state.0 image) (sym changes.held) state.1)
 
     pub again_no_store : (status : ℕ) → SaysLast output 8 no_store_text status mid new → CheckEnds spelling first_fault tells output status first new

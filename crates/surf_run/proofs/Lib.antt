@@ -6,6 +6,7 @@ pub mod Checked
 pub mod Compacts
 pub mod CrashReplies
 pub mod Dialogues
+pub mod Dumped
 pub mod EndCauses
 pub mod Footprint
 mod Formats
@@ -22,7 +23,9 @@ pub mod OneMap
 pub mod Openings
 pub mod Outcomes
 pub mod Progress
+pub mod PutsRead
 pub mod Ranges
+pub mod Readings
 pub mod NewNumbersSet
 pub mod Scans
 pub mod Slices

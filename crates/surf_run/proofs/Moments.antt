@@ -50,6 +50,7 @@ tied_still spelling filter_bytes store s a b time tied = record {
   images = now_still (RepresentsOn spelling store.manifest store.tables store.job s) a b time tied.images;
   log = tied.log;
   memory = tied.memory;
+  ranges = tied.ranges;
   blocks = tied.blocks;
 }
 

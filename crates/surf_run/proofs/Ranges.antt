@@ -23,7 +23,7 @@ use Rattle.merge_rows.specs.Reads.{OnlyReads}
 use Rattle.outside.proofs.Crossing.{during_disk, during_none, during_say, during_then, during_weaker}
 use Rattle.outside.specs.During.{During}
 use Rattle.outside.specs.Streams.{SaidByNow, SayMoves, SaysPrefix}
-use Rattle.state_model.specs.Bounds.{seek_bound}
+use Rattle.state_model.specs.Bounds.{tables_between}
 use Rattle.state_model.specs.Script.{AtDevice, Onward, Over, turn_of}
 use Rattle.state_model.specs.State.{State}
 use Rattle.state_model.specs.Steps.{Step, read_failed}
@@ -272,7 +272,7 @@ module _ (kind : Kind) (s : State) (lo hi : Bytes) (most : ℕ) (store : StoreVa
         part.1 result six
 
     -- a block was not read
-    pub range_fault : (why : StoreError) → IsStepFault w mid why → IsUndamaged why → n < most → 0 < seek_bound s lo hi
+    pub range_fault : (why : StoreError) → IsStepFault w mid why → IsUndamaged why → n < most → 0 < tables_between s lo hi
         → ((reply : Reply) → told why ≡ Some reply → SaysBehind waits (end_by reply) reply result mid b) → EndsLine kind result s (Range lo hi most) store a b
     range_fault (error.Device cause) fault undamaged fewer some says =
         last_device Device

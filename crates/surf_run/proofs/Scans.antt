@@ -165,9 +165,10 @@ pub bounded_seek : (s : State) (lo : Bytes) (high : Option Bytes) (a mid : World
 bounded_seek s lo None a mid most reads few bounded = absurd bounded
 bounded_seek s lo (Some hi) a mid most reads few bounded = omega (arith, reads, few hi refl)
 
-pub may_seek : (s : State) (lo : Bytes) (high : Option Bytes) → MayRead s lo high → Reads s (Seek lo high)
-may_seek s lo None may = may
-may_seek s lo (Some hi) may = may
+-- and it reads only where a block is owed
+pub may_seek : (s : State) (lo : Bytes) (high : Option Bytes) (most : ℕ) → MayRead s lo high → 1 ≤ most → ((hi : Bytes) → high ≡ Some hi → most ≤ seek_bound s lo hi) → Reads s (Seek lo high)
+may_seek s lo None most may some few = may
+may_seek s lo (Some hi) most may some few = omega (arith, some, few hi refl)
 
 -- where there is no scan nothing was read
 pub no_device : (Holds : Type 0) (stopped : Bool) (broken : Option Reply) (why : StoreError) → IsScanRefusal stopped broken why → IfDevice Holds why

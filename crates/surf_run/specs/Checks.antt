@@ -4,7 +4,7 @@ use Rattle.std.specs.List.{sum_by}
 use Rattle.byte_fields.specs.Faults.{Fault}
 use Rattle.disk_trait.specs.World.{Image, Passes, Rose, Same, World}
 use Rattle.filter_api.specs.Spellings.{Spelling}
-use Rattle.image_model.specs.Findings.{AreFindings, BrokenRule, Finding, OtherSum, What, WrongCount, WrongKeys, WrongLeaf}
+use Rattle.image_model.specs.Findings.{AreFindings, BrokenRule, Finding, OtherSum, ShowsOnlyEntries, What, WrongCount, WrongKeys, WrongLeaf}
 use Rattle.image_model.specs.Stands.{IsStateOf}
 use Rattle.line_model.specs.Replies.{part_word, sum_word, text_of}
 use Rattle.line_model.specs.Replies as replies
@@ -112,20 +112,26 @@ HasState spelling image = (s : State) × IsStateOf spelling s image
 abbrev pub HasFindings : Spelling → (Bytes → Fault) → Image → Type 0
 HasFindings spelling first_fault image = (findings : List Finding) × AreFound spelling first_fault image findings × (findings ≢ [])
 
+-- It holds bytes; and unless something is wrong with it, its log and its tables have entries alone. An image with a deleted range
+-- represents no state yet.
+pub record HoldsEntries (spelling : Spelling) (first_fault : Bytes → Fault) (image : Image) : Type 0 where
+  pub bytes : IsOfBytes image
+  pub entries : AreFound spelling first_fault image [] → ShowsOnlyEntries image
+
 -- ---- the whole
 
--- How a check ends. Over an observable device that holds bytes its lines are what `IsCheckText` says; 0 comes exactly where an image
+-- How a check ends. Over an observable device that holds bytes and no deleted range its lines are what `IsCheckText` says; 0 comes exactly where an image
 -- represents a state, 12 exactly where something is wrong and 8 exactly where no store is there, unless the check is cut off. The
 -- device failed only where the count of failed reads rose, and the output where its own did. Where no call fails a check ends so or
 -- for lack of memory.
 pub record CheckEnds (spelling : Spelling) (first_fault : Bytes → Fault) (tells tells_output : Bool) (status : ℕ) (old new : World) : Type 0 where
-  pub checked : IsTrue tells → IsTrue tells_output → IsOfBytes old.seen.held → LastLine (IsCheckText spelling first_fault old.seen.held) status old new
-  pub clean : IsTrue tells → IsOfBytes old.seen.held → status ≡ done_status → HasState spelling old.seen.held
-  pub told_clean : IsTrue tells → IsOfBytes old.seen.held → HasState spelling old.seen.held → (status ≡ done_status) ⊎ IsCutOff status
-  pub wrong : IsTrue tells → IsOfBytes old.seen.held → status ≡ findings_status → HasFindings spelling first_fault old.seen.held
-  pub told_wrong : IsTrue tells → IsOfBytes old.seen.held → HasFindings spelling first_fault old.seen.held → (status ≡ findings_status) ⊎ IsCutOff status
-  pub no_store : IsTrue tells → IsOfBytes old.seen.held → status ≡ store_status → IsNoStore old.seen.held
-  pub told_no_store : IsTrue tells → IsOfBytes old.seen.held → IsNoStore old.seen.held → (status ≡ store_status) ⊎ IsCutOff status
+  pub checked : IsTrue tells → IsTrue tells_output → HoldsEntries spelling first_fault old.seen.held → LastLine (IsCheckText spelling first_fault old.seen.held) status old new
+  pub clean : IsTrue tells → HoldsEntries spelling first_fault old.seen.held → status ≡ done_status → HasState spelling old.seen.held
+  pub told_clean : IsTrue tells → HoldsEntries spelling first_fault old.seen.held → HasState spelling old.seen.held → (status ≡ done_status) ⊎ IsCutOff status
+  pub wrong : IsTrue tells → HoldsEntries spelling first_fault old.seen.held → status ≡ findings_status → HasFindings spelling first_fault old.seen.held
+  pub told_wrong : IsTrue tells → HoldsEntries spelling first_fault old.seen.held → HasFindings spelling first_fault old.seen.held → (status ≡ findings_status) ⊎ IsCutOff status
+  pub no_store : IsTrue tells → HoldsEntries spelling first_fault old.seen.held → status ≡ store_status → IsNoStore old.seen.held
+  pub told_no_store : IsTrue tells → HoldsEntries spelling first_fault old.seen.held → IsNoStore old.seen.held → (status ≡ store_status) ⊎ IsCutOff status
   pub reads : status ≡ device_status → Rose old.seen.read_faults new.seen.read_faults
   pub saying : status ≡ output_status → SayFailed old new
   pub complete : (SomeFailed old new → ⊥) → IsCheckEnd status

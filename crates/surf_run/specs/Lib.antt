@@ -7,6 +7,7 @@ pub mod Answering
 pub mod Causes
 pub mod Chaining
 pub mod Checks
+pub mod Copies
 pub mod Crash
 pub mod Dialogue
 pub mod ServedOrNot
@@ -20,6 +21,7 @@ pub mod MapCrash
 pub mod OneMap
 pub mod Open
 pub mod Outcome
+pub mod Readings
 pub mod Refusals
 pub mod Resetting
 pub mod RunContract

@@ -55,6 +55,8 @@ pub record Cases : Type 1 where
   pub load : Load → Type 0
   pub reset : NewNumbers → Type 0
   pub check : Type 0
+  pub tables : Type 0
+  pub dump : Type 0
   pub format : NewStore → Type 0
   pub bad_settings : Field → Type 0
   pub help : Type 0
@@ -68,6 +70,8 @@ In (asked.Load load) cases = cases.load load
 In (asked.Settings settings) cases = cases.reset (new.Settings settings)
 In (asked.Grow pages) cases = cases.reset (new.Pages pages)
 In asked.Check cases = cases.check
+In asked.Tables cases = cases.tables
+In asked.Dump cases = cases.dump
 In (asked.Format store) cases = cases.format store
 In (asked.BadSettings field) cases = cases.bad_settings field
 In (asked.Help text) cases = cases.help
@@ -81,6 +85,8 @@ always Holds = record {
   load = λ _. Holds;
   reset = λ _. Holds;
   check = Holds;
+  tables = Holds;
+  dump = Holds;
   format = λ _. Holds;
   bad_settings = λ _. Holds;
   help = Holds;
@@ -139,6 +145,14 @@ IfReset asked Holds Starved = In asked (record nothing { reset = Holds; memory =
 -- where it was to be checked
 abbrev pub IfCheck : Asked → Type 0 → Type 0
 IfCheck asked Holds = In asked (record nothing { check = Holds; memory = Holds })
+
+-- where its tables were to be said
+abbrev pub IfTables : Asked → Type 0 → Type 0
+IfTables asked Holds = In asked (record nothing { tables = Holds; memory = Holds })
+
+-- where its pairs were to be said
+abbrev pub IfDump : Asked → Type 0 → Type 0
+IfDump asked Holds = In asked (record nothing { dump = Holds; memory = Holds })
 
 -- ---- this was asked for, and nothing else
 

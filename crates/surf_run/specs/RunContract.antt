@@ -16,7 +16,7 @@ use Rattle.manifest_model.specs.Slots.{IsNoStore, IsVersionOf}
 use Rattle.manifest_model.specs.Version.{Version}
 use Rattle.map_model.specs.SortedMap.{Bytes}
 use Rattle.outside.specs.Streams.{SayMoves}
-use Rattle.program_words.specs.Asked.{AreRefusedWords, HasBadNumber, IsCheck, IsFormat, IsGrow, IsHelp, IsLoadInRange, IsServe, OpensStore, OpensWithoutGrowing}
+use Rattle.program_words.specs.Asked.{AreRefusedWords, HasBadNumber, IsCheck, IsDump, IsFormat, IsGrow, IsHelp, IsLoadInRange, IsServe, IsTables, OpensStore, OpensWithoutGrowing}
 use Rattle.program_words.specs.NewStores.{IsStoreOf, first_bad_word}
 use Rattle.program_words.specs.declared.load.Load.{Load}
 use Rattle.program_words.specs.declared.new_store.NewStore.{NewStore}
@@ -30,6 +30,7 @@ use Rattle.surf_run.specs.Kind.{Kind}
 use Rattle.surf_run.specs.Loads.{IsLoading, LoadEnds, Loads}
 use Rattle.surf_run.specs.MapCrash.{OneMapLasts}
 use Rattle.surf_run.specs.Open.{IsOpeningText, OpensNothing}
+use Rattle.surf_run.specs.Readings.{DumpEnds, TablesEnds}
 use Rattle.surf_run.specs.Resetting.{AskFor, IsInLastEpoch, IsResetEnd, IsResetting, OpenedThenReset, ResetEnds, TellsWhich}
 use Rattle.surf_run.specs.Run.{AskNothing, FormatEnds, IsBadSettingsText, IsHelpText, IsUsageText}
 use Rattle.table_file.specs.Faults.{filter_fault_of}
@@ -148,4 +149,8 @@ pub record RunContract {X : Type 0} (world : X → World) (tells tells_input tel
   -- changes nothing.
   pub check : IsCheck words → CheckEnds kind.spelling first_fault tells tells_output status (world old) (world new)
   pub only_at_check : status ≡ findings_status → IsCheck words
+  -- Of `tables`: what each table has, and what the store has; and it changes nothing.
+  pub tables : IsTables words → TablesEnds kind.spelling first_fault tells tells_output status (world old) (world new)
+  -- Of `dump`: the pairs of the map, as lines that put them; and it changes nothing.
+  pub dump : IsDump words → DumpEnds kind.spelling first_fault tells tells_output status (world old) (world new)
   pub statuses : IsServing status ⊎ (status ≡ wrong_words_status) ⊎ (status ≡ damaged_status) ⊎ (status ≡ memory_status) ⊎ (status ≡ store_status) ⊎ (status ≡ last_epoch_status) ⊎ (status ≡ findings_status)

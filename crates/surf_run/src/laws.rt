@@ -1,5 +1,6 @@
-//! What holds of replies, whatever merge runs, and of runs that follow one another.
+//! What holds of replies, whatever merge runs, of runs that follow one another, and of dumps.
 ghost use Rattle.surf_run.specs.Chaining.{RunsChain};
+ghost use Rattle.surf_run.specs.Copies.{DumpsAreCopies};
 ghost use Rattle.surf_run.specs.Independence.{RepliesAreOfTheMap};
 ghost use Rattle.surf_run.specs.Kind.{filter_kind};
 
@@ -15,4 +16,9 @@ pub fn replies_are_of_the_map()
 /// after the lines that were acknowledged by then, or after one more. It does nothing.
 pub fn runs_chain<F: RangeFilter, W: Outside>()
     ensures { RunsChain W.world W.tells W.tells_input W.tells_output (filter_kind F.spelling F.built_cutoff) F.first_fault }
+{}
+
+/// Law: the lines of a dump, each answered `ok` over an empty store, make the map that was dumped. It does nothing.
+pub fn dumps_are_copies()
+    ensures { DumpsAreCopies }
 {}

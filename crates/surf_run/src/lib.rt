@@ -3,7 +3,8 @@
 //! [`run`] reads the words by `program_words`. `format` makes the device an empty store. `serve` opens the store on it, answers
 //! the lines of the input until its end or `quit`, and answers the exit status. `load` opens it too, makes steps that follow from
 //! a seed, and tells the summary of the map that is then there. `settings` opens it and changes what new tables get, and `grow`
-//! gives it more pages. `check` reads all of it, says what is wrong, and changes nothing.
+//! gives it more pages. `check` reads all of it, says what is wrong, and changes nothing; `tables` says what each table has, and
+//! `dump` each pair, as the line that puts it.
 //! A put or a delete is written to the log and made to last before its `ok` is said. Its contract is the
 //! promise of the whole program: what was said is what one sorted map answers, at each moment a crash leaves the map after some
 //! first lines that have all that was acknowledged and none that was refused, and no more blocks are read than the filters of the
@@ -26,6 +27,7 @@ mod bounds;
 mod check_lines;
 mod checking;
 mod crash_examples;
+mod dumping;
 mod format_lines;
 mod formatting;
 mod laws;
@@ -35,8 +37,10 @@ mod new_numbers;
 mod one_line;
 mod opened;
 mod opening;
+mod reading;
 mod reset_lines;
 mod resetting;
+mod tables;
 mod top;
 
 pub use laws::{replies_are_of_the_map, runs_chain};

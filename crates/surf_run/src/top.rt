@@ -16,16 +16,19 @@ ghost use Rattle.surf_run.specs.ServedOrNot.{HasNoState, NoLineAnswered, OpenedT
 ghost use Rattle.surf_run.specs.Kind.{filter_kind};
 ghost use Rattle.surf_run.specs.Loads.{IsLoading, LoadEnds, Loads};
 ghost use Rattle.surf_run.specs.Open.{OpeningEnds};
+ghost use Rattle.surf_run.specs.Readings.{DumpEnds, TablesEnds};
 ghost use Rattle.surf_run.specs.RunContract.{RunContract};
 ghost use Rattle.surf_run.specs.Resetting.{IsInLastEpoch, IsResetEnd, IsResetting, OpenedThenReset, ResetEnds, TellsWhich};
-ghost use Rattle.surf_run.specs.Run.{FormatEnds, HasSettingsInRange, IfBadSettings, IfCheck, IfFormat, IfHelp, IfLoad, IfOpens, IfOpensWithoutGrowing, IfRefused, IfReset, IfServe, IfUnserved, IsBadSettingsText, IsCheckAsk, IsHelpText, IsLoadAsk, IsMemoryText, IsRefusedAsk, IsResetAsk, IsUsageText};
+ghost use Rattle.surf_run.specs.Run.{FormatEnds, HasSettingsInRange, IfBadSettings, IfCheck, IfDump, IfFormat, IfHelp, IfLoad, IfOpens, IfOpensWithoutGrowing, IfRefused, IfReset, IfServe, IfTables, IfUnserved, IsBadSettingsText, IsCheckAsk, IsHelpText, IsLoadAsk, IsMemoryText, IsRefusedAsk, IsResetAsk, IsUsageText};
 
 use crate::checking::run_check;
+use crate::dumping::run_dump;
 use crate::formatting::{run_format, say_bad_settings};
 use crate::loading::open_and_load;
 use crate::new_numbers::NewNumbers;
 use crate::opened::open_and_serve;
 use crate::resetting::open_and_reset;
+use crate::tables::run_tables;
 use filter_api::RangeFilter;
 use lines_in::{Status, last_line, say_last};
 use outside::Outside;
@@ -81,6 +84,8 @@ fn run_asked<F: RangeFilter, W: Outside>(alloc: Global, asked: Asked, out: &mut 
     ensures reset_at_damage { IsTrue W.tells → IsTrue W.tells_output → result ≡ damaged_status → IfReset asked (λ _. TellsDamage F.spelling F.first_fault (W.world out.old).seen.held (W.world out.old) (W.world out.new)) ⊥ }
     ensures at_ten { result ≡ last_epoch_status → IsResetAsk asked × (IsTrue W.tells → IsInLastEpoch (W.world out.old).seen.held) }
     ensures check { IfCheck asked (CheckEnds F.spelling F.first_fault W.tells W.tells_output result (W.world out.old) (W.world out.new)) }
+    ensures tables { IfTables asked (TablesEnds F.spelling F.first_fault W.tells W.tells_output result (W.world out.old) (W.world out.new)) }
+    ensures dump { IfDump asked (DumpEnds F.spelling F.first_fault W.tells W.tells_output result (W.world out.old) (W.world out.new)) }
     ensures at_twelve { result ≡ findings_status → IsCheckAsk asked }
     ensures statuses { IsServing result ⊎ (result ≡ wrong_words_status) ⊎ (result ≡ damaged_status) ⊎ (result ≡ memory_status) ⊎ (result ≡ store_status) ⊎ (result ≡ last_epoch_status) ⊎ (result ≡ findings_status) }
 {
@@ -92,6 +97,8 @@ fn run_asked<F: RangeFilter, W: Outside>(alloc: Global, asked: Asked, out: &mut 
         }
         Asked::Grow(pages) => open_and_reset::<F, W>(alloc, out, NewNumbers::Pages(pages)),
         Asked::Check => run_check::<F, W>(alloc, out),
+        Asked::Tables => run_tables::<F, W>(alloc, out),
+        Asked::Dump => run_dump::<F, W>(alloc, out),
         Asked::Format(store) => run_format::<F, W>(alloc, store.settings, store.pages, out),
         Asked::BadSettings(field) => say_bad_settings(out, field),
         Asked::Help(text) => say_last(out, text.as_bytes(), Status::Done as u8),
@@ -105,7 +112,7 @@ fn run_asked<F: RangeFilter, W: Outside>(alloc: Global, asked: Asked, out: &mut 
 /// `format` makes the device an empty store. `serve` opens the store on the device and answers the lines of the input, each
 /// reply said before the next line is begun. `load` opens it too, makes its steps, each as a line would with a merge slice after
 /// it, and says one line of the map that is then there. `settings` and `grow` open it, give it new numbers and say them. `check`
-/// reads all of it, says what is wrong and changes nothing. Help and the version are said with status 0.
+/// reads all of it, says what is wrong and changes nothing, `tables` says what each table has, and `dump` each pair. Help and the version are said with status 0.
 ///
 /// | status | comes |
 /// |---|---|

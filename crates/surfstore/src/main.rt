@@ -45,7 +45,7 @@ fn asks_for_text(words: &[String]) -> bool {
 // Whether the words after the path ask for what only reads: then no file is made, and none is written.
 fn reads_alone(words: &[String]) -> bool {
     match words.first() {
-        Some(word) => word.as_str() == "check",
+        Some(word) => matches!(word.as_str(), "check" | "dump" | "tables"),
         None => false,
     }
 }

@@ -15,4 +15,4 @@ returns-clause-kinds c =
     subst (λ (a : App). FailsBy (fault_of a (map string_bytes c.args.words.now)) c.try_get_matches_from.result) app (c.try_get_matches_from.ensures.kinds simple)
 
 pub returns-clause-known : goal.returns-clause-known
-returns-clause-known c = matches_known (map string_bytes c.args.words.now) c.try_get_matches_from.result (search rules) (search rules)
+returns-clause-known c = matches_known (map string_bytes c.args.words.now) c.try_get_matches_from.result (returns-clause-kinds c) (search rules)

@@ -4,7 +4,7 @@ use Rattle.line_model.specs.Replies.{Counted}
 use Rattle.line_model.specs.Requests.{Count}
 use Rattle.lines_in.proofs.EndCauses.{line_read, no_fall_say}
 use Rattle.lines_in.specs.declared.line_end.LineEnd.TheVariants.{Next}
-use Rattle.state_model.specs.Bounds.{seek_bound}
+use Rattle.state_model.specs.Bounds.{tables_between}
 use Rattle.state_model.specs.Steps.{Reads}
 use Rattle.store_core.specs.Answers.{HasCause}
 use Rattle.store_core.specs.Scans.{IsScanShown}
@@ -52,7 +52,7 @@ returns-in-Err g c =
     (λ s tells output tied.
     scan_refused kind request c.args.store.now c.say_refusal.result a mid b moves (g.met.W.Outside.said_now c.args.out.now) (g.met.W.Outside.said_now c.count.new.disk) c.say_refusal.ensures.moves
     s c.consistency_law.ensures.slot tied (λ never. absurd never) why told (c.in-Err.ensures.undamaged s tells tied) refl tt refl
-    (met_device (Reads s request) (seek_bound s c.args.lo.now c.args.hi.now) why (λ some. some) (c.in-Err.ensures.only_if_read s tells tied)) (λ reply is. c.say_refusal.ensures.says reply output is))
+    (met_device (Reads s request) (tables_between s c.args.lo.now c.args.hi.now) why (λ some. some) (c.in-Err.ensures.only_if_read s tells tied)) (λ reply is. c.say_refusal.ensures.says reply output is))
     (scan_cause _ (limit_of request) why c.say_refusal.result a mid b told c.say_refusal.ensures.ends (line_read moves.0 a mid moves.1).counts (no_fall_say mid b c.say_refusal.ensures.moves)
     (λ ends five tell. says_damage c.args.store.now.tables request why c.say_refusal.result a.seen.held mid b
     (λ d is. subst (IsScanShown c.args.store.now.tables a.seen.held) is (c.in-Err.ensures.shown tell.0)) moves.1.held c.say_refusal.ensures.moves.seen (λ reply is. c.say_refusal.ensures.says reply tell.1 is) ends five))

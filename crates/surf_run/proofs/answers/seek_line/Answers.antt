@@ -70,7 +70,8 @@ returns-in-Ok g c =
     s c.consistency_law.ensures.slot tied
     (bounded_seek s c.args.lo.now high a mid _ (c.advance.ensures.bounded pairs tells shows) (λ hi is. c.in-Ok.ensures.bounded s a.seen.held hi seen is)) why told
     (c.in-Err-advance.ensures.undamaged pairs tells shows) refl tt refl
-    (if_device (Reads s request) why (may_seek s c.args.lo.now high (c.in-Ok.ensures.only_if_read s a.seen.held seen c.in-Err-advance.ensures.only_if_read.0))) (λ reply is. c.say_refusal.ensures.says reply output is))
+    (if_device (Reads s request) why (may_seek s c.args.lo.now high _ (c.in-Ok.ensures.only_if_read s a.seen.held seen c.in-Err-advance.ensures.only_if_read.0) (c.in-Err-advance.ensures.owed pairs tells shows)
+    (λ hi is. c.in-Ok.ensures.bounded s a.seen.held hi seen is))) (λ reply is. c.say_refusal.ensures.says reply output is))
     (scan_cause _ broken why c.say_refusal.result a mid b told c.say_refusal.ensures.ends (line_read moves.0 a mid moves.1).counts (no_fall_say mid b c.say_refusal.ensures.moves)
     (λ ends five tell. says_damage c.args.store.now.tables request why c.say_refusal.result a.seen.held mid b
     (λ d is. subst (IsScanShown c.args.store.now.tables a.seen.held) is (subst (λ ts. IsScanShown ts a.seen.held why) c.in-Ok.ensures.made.0 (c.in-Err-advance.ensures.shown tell.0))) moves.1.held c.say_refusal.ensures.moves.seen

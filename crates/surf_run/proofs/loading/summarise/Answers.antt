@@ -15,7 +15,7 @@ use Rattle.store_core.proofs.ScanCounts.{count_few, drop_next, none_behind, none
 use Rattle.store_core.proofs.Tellings.{seen_as}
 use Rattle.store_core.specs.Scans.{IsScanRefusal, IsScanShown, StillComes}
 use Rattle.surf_run.proofs.LoadSums.{all_between, summed_next}
-use Rattle.surf_run.proofs.Scans.{if_device, may_seek, no_device}
+use Rattle.surf_run.proofs.Scans.{if_device, no_device}
 use Rattle.table_file.specs.Opened.{Opened}
 use Rattle.table_model.specs.Tables.{filter_bytes_of}
 use Rattle.surf_run.proofs.loading.summarise.Goals as goal
@@ -75,7 +75,7 @@ returns-in_err-advance-clause-only_if_read g c s so tied =
     let before = g.W.Disk.world c.args.out.now in
     let seen = seen_as g.F.RangeFilter.spelling (filter_bytes_of g.F.RangeFilter.spelling g.F.RangeFilter.built_cutoff) c.args.store.now s before (g.met.W.Disk.current c.args.out.now so) tied in
     let some = subst (λ (n : ℕ). 1 ≤ n) c.loop.invariant.opened c.in_err-advance.ensures.only_if_read.0 in
-    let here = if_device (Reads s (Seek [] None)) c.in_err-advance.field-0.0 (may_seek s [] None (c.in_ok-scan.ensures.only_if_read s before.seen.held seen some)) in
+    let here = if_device (Reads s (Seek [] None)) c.in_err-advance.field-0.0 (c.in_ok-scan.ensures.only_if_read s before.seen.held seen some) in
     search rules
 
 pub returns-in_err-advance-clause-shown : goal.returns-in_err-advance-clause-shown

@@ -5,7 +5,7 @@ use Rattle.lines_in.proofs.LastLines.{unserved_wider}
 use Rattle.surf_run.specs.Kind.{filter_kind}
 use Rattle.surf_run.specs.Run.{IsBadSettingsText, IsMemoryText}
 use Rattle.surf_run.specs.declared.new_numbers.NewNumbers.TheVariants as new
-use Rattle.surf_run.proofs.Asking.{has_settings_in_range, if_bad, if_check, if_format, if_help, if_load, if_nothing, if_opens, if_opens_without_growing, if_refused, if_reset, if_serve, is_check, is_load, is_refused, is_reset}
+use Rattle.surf_run.proofs.Asking.{has_settings_in_range, if_bad, if_check, if_dump, if_format, if_help, if_load, if_nothing, if_opens, if_opens_without_growing, if_refused, if_reset, if_serve, if_tables, is_check, is_load, is_refused, is_reset}
 use Rattle.surf_run.proofs.Chaining.{one_map_lasts}
 use Rattle.surf_run.proofs.Formats.{format_ends}
 use Rattle.surf_run.proofs.top.run.Goals as goal
@@ -64,6 +64,8 @@ returns g c =
       only_at_bad_pages = λ pages tells eight is. if_reset words asked (new.Pages pages) _ _ is asks (by.at_eight tells eight) (λ never. absurd never);
       told_of_no_store = λ tells none is. (if_opens words asked _ is asks by.ending).told_of_no_store tells none;
       check = λ is. if_check words asked _ is asks by.check;
+      tables = λ is. if_tables words asked _ is asks by.tables;
+      dump = λ is. if_dump words asked _ is asks by.dump;
       only_at_check = λ twelve. is_check words asked asks (by.at_twelve twelve);
       statuses = by.statuses;
     }

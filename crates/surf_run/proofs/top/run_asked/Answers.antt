@@ -16,10 +16,11 @@ use Rattle.surf_run.specs.Open.{IsFreeText, IsOpeningText, OpeningEnds}
 use Rattle.surf_run.specs.Resetting.{IsResetEnd, IsResetting, OpenedThenReset, ResetEnds, TellsWhich}
 use Rattle.surf_run.specs.Run.{FormatEnds, IsBadSettingsText, IsHelpText, IsUsageText, usage_text}
 use Rattle.surf_run.specs.declared.new_numbers.NewNumbers.{NewNumbers}
-use Rattle.surf_run.proofs.Asking.{at_bad, at_check, at_format, at_help, at_load, at_refused, at_serve, check_is_asked, grow_opens, grow_opens_so, grow_is_reset, grow_reset, load_is_asked, load_opens, load_opens_so, memory_bad, memory_check, memory_help, memory_load, memory_opens, memory_refused, memory_reset, memory_serve, serve_opens, settings_in_its_range, settings_is_reset, settings_opens, settings_opens_so, settings_reset}
+use Rattle.surf_run.proofs.Asking.{at_bad, at_check, at_dump, at_format, at_help, at_load, at_refused, at_serve, at_tables, check_is_asked, grow_opens, grow_opens_so, grow_is_reset, grow_reset, load_is_asked, load_opens, load_opens_so, memory_bad, memory_check, memory_dump, memory_help, memory_load, memory_opens, memory_refused, memory_reset, memory_serve, memory_tables, serve_opens, settings_in_its_range, settings_is_reset, settings_opens, settings_opens_so, settings_reset}
 use Rattle.surf_run.proofs.Checked.{check_as_statuses, checking_never_five, checking_never_ten, checking_never_three, checking_never_two, loading_never_twelve, memory_ends, reset_never_twelve, serving_never_twelve}
 use Rattle.surf_run.proofs.LoadEnds.{as_statuses, never_two}
 use Rattle.surf_run.proofs.NewNumbersSet.{loading_never_ten, never_two as reset_never_two, reset_as_statuses, serving_never_ten}
+use Rattle.surf_run.proofs.Readings.{memory_dump_end, memory_tables_end, reading_as_statuses, reading_never}
 use Rattle.surf_run.proofs.top.run_asked.Goals as goal
 
 -- a line of this status
@@ -406,3 +407,67 @@ returns-in-Memory-clause-check g c =
     memory_check c.args.asked _ c.in-Memory.is
     (memory_ends g.F.RangeFilter.spelling g.F.RangeFilter.first_fault g.met.F.RangeFilter.spells_one g.W.Disk.tells g.W.Outside.tells_output c.last_line.result (g.W.Disk.world c.args.out.now) (g.W.Disk.world c.last_line.new.out)
     (record { whole = λ told. c.last_line.ensures.said told tt; prefix = c.last_line.ensures.prefix; ends = c.last_line.ensures.ends; moves = c.last_line.ensures.moves }))
+
+-- ---- tables
+
+pub returns-in-Tables-clause-tables : goal.returns-in-Tables-clause-tables
+returns-in-Tables-clause-tables g c = at_tables c.args.asked _ c.in-Tables.is c.run_tables.ensures
+
+pub returns-in-Tables-clause-counts : goal.returns-in-Tables-clause-counts
+returns-in-Tables-clause-counts g c = c.run_tables.ensures.reading.changes.counts
+
+pub returns-in-Tables-clause-causes : goal.returns-in-Tables-clause-causes
+returns-in-Tables-clause-causes g c = c.run_tables.ensures.reading.causes
+
+pub returns-in-Tables-clause-only_at_wrong_words : goal.returns-in-Tables-clause-only_at_wrong_words
+returns-in-Tables-clause-only_at_wrong_words g c two = absurd (reading_never 2 c.run_tables.result (λ e. cc) (λ e. cc) (λ e. cc) (λ e. cc) (λ e. cc) (λ e. cc) c.run_tables.ensures.reading.statuses two)
+
+pub returns-in-Tables-clause-only_at_damage : goal.returns-in-Tables-clause-only_at_damage
+returns-in-Tables-clause-only_at_damage g c tells input output five = inl (c.run_tables.ensures.only_at_damage tells output five)
+
+pub returns-in-Tables-clause-at_ten : goal.returns-in-Tables-clause-at_ten
+returns-in-Tables-clause-at_ten g c ten = absurd (reading_never 10 c.run_tables.result (λ e. cc) (λ e. cc) (λ e. cc) (λ e. cc) (λ e. cc) (λ e. cc) c.run_tables.ensures.reading.statuses ten)
+
+pub returns-in-Tables-clause-at_twelve : goal.returns-in-Tables-clause-at_twelve
+returns-in-Tables-clause-at_twelve g c twelve = absurd (reading_never 12 c.run_tables.result (λ e. cc) (λ e. cc) (λ e. cc) (λ e. cc) (λ e. cc) (λ e. cc) c.run_tables.ensures.reading.statuses twelve)
+
+pub returns-in-Tables-clause-statuses : goal.returns-in-Tables-clause-statuses
+returns-in-Tables-clause-statuses g c = reading_as_statuses c.run_tables.result c.run_tables.ensures.reading.statuses
+
+pub returns-in-Memory-clause-tables : goal.returns-in-Memory-clause-tables
+returns-in-Memory-clause-tables g c =
+    memory_tables c.args.asked _ c.in-Memory.is
+    (memory_tables_end g.F.RangeFilter.spelling g.F.RangeFilter.first_fault g.W.Disk.tells g.W.Outside.tells_output c.last_line.result (g.W.Disk.world c.args.out.now) (g.W.Disk.world c.last_line.new.out)
+    (g.met.W.Outside.said_now c.args.out.now) c.last_line.ensures.moves (λ told. c.last_line.ensures.said told tt) c.last_line.ensures.prefix c.last_line.ensures.ends)
+
+-- ---- a dump
+
+pub returns-in-Dump-clause-dump : goal.returns-in-Dump-clause-dump
+returns-in-Dump-clause-dump g c = at_dump c.args.asked _ c.in-Dump.is c.run_dump.ensures
+
+pub returns-in-Dump-clause-counts : goal.returns-in-Dump-clause-counts
+returns-in-Dump-clause-counts g c = c.run_dump.ensures.reading.changes.counts
+
+pub returns-in-Dump-clause-causes : goal.returns-in-Dump-clause-causes
+returns-in-Dump-clause-causes g c = c.run_dump.ensures.reading.causes
+
+pub returns-in-Dump-clause-only_at_wrong_words : goal.returns-in-Dump-clause-only_at_wrong_words
+returns-in-Dump-clause-only_at_wrong_words g c two = absurd (reading_never 2 c.run_dump.result (λ e. cc) (λ e. cc) (λ e. cc) (λ e. cc) (λ e. cc) (λ e. cc) c.run_dump.ensures.reading.statuses two)
+
+pub returns-in-Dump-clause-only_at_damage : goal.returns-in-Dump-clause-only_at_damage
+returns-in-Dump-clause-only_at_damage g c tells input output five = elim (c.run_dump.ensures.only_at_damage tells output five) [ inl told ↦ inl told | inr none ↦ inr (none.0, inl none.1) ]
+
+pub returns-in-Dump-clause-at_ten : goal.returns-in-Dump-clause-at_ten
+returns-in-Dump-clause-at_ten g c ten = absurd (reading_never 10 c.run_dump.result (λ e. cc) (λ e. cc) (λ e. cc) (λ e. cc) (λ e. cc) (λ e. cc) c.run_dump.ensures.reading.statuses ten)
+
+pub returns-in-Dump-clause-at_twelve : goal.returns-in-Dump-clause-at_twelve
+returns-in-Dump-clause-at_twelve g c twelve = absurd (reading_never 12 c.run_dump.result (λ e. cc) (λ e. cc) (λ e. cc) (λ e. cc) (λ e. cc) (λ e. cc) c.run_dump.ensures.reading.statuses twelve)
+
+pub returns-in-Dump-clause-statuses : goal.returns-in-Dump-clause-statuses
+returns-in-Dump-clause-statuses g c = reading_as_statuses c.run_dump.result c.run_dump.ensures.reading.statuses
+
+pub returns-in-Memory-clause-dump : goal.returns-in-Memory-clause-dump
+returns-in-Memory-clause-dump g c =
+    memory_dump c.args.asked _ c.in-Memory.is
+    (memory_dump_end g.F.RangeFilter.spelling g.F.RangeFilter.first_fault g.W.Disk.tells g.W.Outside.tells_output c.last_line.result (g.W.Disk.world c.args.out.now) (g.W.Disk.world c.last_line.new.out)
+    (g.met.W.Outside.said_now c.args.out.now) c.last_line.ensures.moves (λ told. c.last_line.ensures.said told tt) c.last_line.ensures.prefix c.last_line.ensures.ends)
