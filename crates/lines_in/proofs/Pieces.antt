@@ -168,9 +168,9 @@ part_size Block = omega arith
 
 pub short_text : (reply : Reply) → IsShort reply → length (text_of (spoken reply)) < 2 ^ 64
 short_text Done short = omega arith
-short_text (Value value) short = omega (arith, word_end (codes "val ") value.now 1048576 short)
+short_text (Value value) short = omega (arith, word_end (codes "val ") value.now 2147483648 short)
 short_text Missing short = omega arith
-short_text (At key value) short = omega (arith, pair_end key.now value.now 1024 1048576 short.0 short.1)
+short_text (At key value) short = omega (arith, pair_end key.now value.now 1024 2147483648 short.0 short.1)
 short_text (End count) short = omega (arith, number_end (codes "end ") count short)
 short_text (Counted count) short = omega (arith, number_end (codes "count ") count short)
 short_text (About count) short = omega (arith, number_end (codes "about ") count short)

@@ -2,7 +2,7 @@
 use Rattle.std.specs.Prelude.{◌≡◌, ◌⊎◌, ◌++◌, ◌<◌, ◌≤◌, ◌^◌, length}
 use Rattle.byte_fields.specs.declared.parts.Damage.TheVariants.{Shape, Sum}
 use Rattle.disk_trait.specs.World.{World}
-use Rattle.key_base.specs.Limits.{max_key_bytes, max_value_bytes}
+use Rattle.key_base.specs.Limits.{max_key_bytes}
 use Rattle.line_model.specs.Replies as line
 use Rattle.line_model.specs.Replies.{Reply, text_of}
 use Rattle.map_model.specs.SortedMap.{Bytes}
@@ -13,10 +13,10 @@ use Rattle.lines_in.specs.declared.line_end.LineEnd.{LineEnd}
 use Rattle.lines_in.specs.declared.line_end.LineEnd.TheVariants.{End, Next, Quit}
 use Rattle.lines_in.specs.Statuses.{device_status, damaged_status, output_status}
 
--- a reply that the program says: with keys and values that keep their limits, and with numbers below 2^64
+-- a reply that a program says: with keys that keep their limit, values of 2^31 bytes at most, and numbers below 2^64
 abbrev pub IsShort : Spoken → Type 0
 IsShort spoken.Done = Unit {0}
-IsShort (spoken.Value value) = length value.now ≤ max_value_bytes
+IsShort (spoken.Value value) = length value.now ≤ 2 ^ 31
 IsShort spoken.Missing = Unit {0}
 IsShort spoken.Bye = Unit {0}
 IsShort (spoken.BadLine code) = code < 2 ^ 64
@@ -29,7 +29,7 @@ IsShort spoken.Memory = Unit {0}
 IsShort spoken.Device = Unit {0}
 IsShort (spoken.Damaged (Sum part at kept seen)) = at < 2 ^ 64
 IsShort (spoken.Damaged (Shape part at rule)) = (at < 2 ^ 64) × (rule < 2 ^ 64)
-IsShort (spoken.At key value) = (length key.now ≤ max_key_bytes) × (length value.now ≤ max_value_bytes)
+IsShort (spoken.At key value) = (length key.now ≤ max_key_bytes) × (length value.now ≤ 2 ^ 31)
 IsShort (spoken.End count) = count < 2 ^ 64
 IsShort (spoken.Counted count) = count < 2 ^ 64
 IsShort (spoken.About count) = count < 2 ^ 64

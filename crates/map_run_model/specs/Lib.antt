@@ -1,0 +1,11 @@
+pub use Rattle.disk_trait.specs.World
+pub use Rattle.line_model.specs.Replies
+pub use Rattle.map_file_model.specs.Reading
+pub use Rattle.outside.specs.During
+pub mod Building
+pub mod ExampleImages
+pub mod Files
+pub mod LastLines
+pub mod MapLines
+pub mod PairLines
+pub mod Serving
