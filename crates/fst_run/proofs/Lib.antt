@@ -1,0 +1,16 @@
+pub mod Building
+pub mod BuiltMaps
+pub mod Crash
+pub mod Dialogue
+pub mod Ends
+pub mod Fetching
+pub mod Found
+pub mod MapVerbs
+pub mod Pairing
+pub mod Parts
+pub mod RangeSteps
+pub mod Reading
+pub mod Serving
+pub mod Short
+pub mod Still
+pub mod Walking

@@ -1,0 +1,10 @@
+pub use Rattle.fst_map.specs.Places
+pub use Rattle.map_run_model.specs.Building
+pub use Rattle.map_run_model.specs.Serving
+pub mod Answering
+pub mod CauseLaws
+pub mod Fetching
+pub mod Ending
+pub mod Laws
+pub mod Refusing
+pub mod Writing
