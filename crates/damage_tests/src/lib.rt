@@ -15,4 +15,6 @@ mod cutoffs;
 #[cfg(test)]
 mod random;
 #[cfg(test)]
+mod ranges;
+#[cfg(test)]
 mod scripts;

@@ -6,6 +6,7 @@ mod Judged
 mod Lived
 mod Lives
 mod Looked
+mod OneLevel
 mod Ordered
 mod Parts
 mod Reopened
@@ -15,4 +16,5 @@ mod Seen
 mod Started
 mod Summarized
 pub mod Told
+mod Valued
 mod Walked

@@ -78,13 +78,13 @@ blocks_joined spelling image (o ∷ opened) (t ∷ tables) there = λ i. sym the
 
 -- ---- the pairs of rows whose keys rise
 
-abbrev with_value : Bytes → Option Bytes → Map → Map
-with_value key None later = later
-with_value key (Some value) later = (key, value) ∷ later
+abbrev pub with_pair : Bytes → Option Bytes → Map → Map
+with_pair key None later = later
+with_pair key (Some value) later = (key, value) ∷ later
 
-abbrev pairs_of : List Entry → Map
+abbrev pub pairs_of : List Entry → Map
 pairs_of [] = []
-pairs_of (e ∷ later) = with_value e.key e.value (pairs_of later)
+pairs_of (e ∷ later) = with_pair e.key e.value (pairs_of later)
 
 abbrev ArePairsAbove : Bytes → Map → Type 0
 ArePairsAbove key pairs = AllByRecursion (λ (pair : Bytes × Bytes). ComesBehind key (record { key = pair.0; value = None })) pairs
@@ -93,7 +93,7 @@ pairs_above : (key : Bytes) (rows : List Entry) → AllByRecursion (ComesBehind 
 pairs_above key [] above = tt
 pairs_above key (e ∷ later) above = by_value (pairs_above key later above.1) e.value
   where
-    by_value : ArePairsAbove key (pairs_of later) → (value : Option Bytes) → ArePairsAbove key (with_value e.key value (pairs_of later))
+    by_value : ArePairsAbove key (pairs_of later) → (value : Option Bytes) → ArePairsAbove key (with_pair e.key value (pairs_of later))
     by_value rest None = rest
     by_value rest (Some value) = (above.0, rest)
 
@@ -101,15 +101,15 @@ rises_behind : (pair : Bytes × Bytes) (later : Map) → ArePairsAbove pair.0 la
 rises_behind pair [] above rises = tt
 rises_behind pair (next ∷ later) above rises = (above.0, rises)
 
-pairs_rise : (rows : List Entry) → KeysRise rows → Rises (pairs_of rows)
+pub pairs_rise : (rows : List Entry) → KeysRise rows → Rises (pairs_of rows)
 pairs_rise [] rises = tt
 pairs_rise (e ∷ later) rises = by_value (pairs_rise later rises.1) e.value
   where
-    by_value : Rises (pairs_of later) → (value : Option Bytes) → Rises (with_value e.key value (pairs_of later))
+    by_value : Rises (pairs_of later) → (value : Option Bytes) → Rises (with_pair e.key value (pairs_of later))
     by_value rest None = rest
     by_value rest (Some value) = rises_behind (e.key, value) (pairs_of later) (pairs_above e.key later rises.0) rest
 
-pairs_say : (rows : List Entry) (key : Bytes) → KeysRise rows → get (pairs_of rows) key ≡ live (lookup rows key)
+pub pairs_say : (rows : List Entry) (key : Bytes) → KeysRise rows → get (pairs_of rows) key ≡ live (lookup rows key)
 pairs_say [] key rises = refl
 pairs_say (e ∷ later) key rises = by_value (pairs_say later key rises.1) e.value (bytes_eq e.key key) refl
   where
@@ -117,7 +117,7 @@ pairs_say (e ∷ later) key rises = by_value (pairs_say later key rises.1) e.val
     none_later is = subst (λ (k : Bytes). lookup later k ≡ None) ((bytes_eq-Decides e.key key).0 is) (none_above e.key later rises.0)
 
     by_value : get (pairs_of later) key ≡ live (lookup later key) → (value : Option Bytes) (same : Bool) → bytes_eq e.key key ≡ same
-        → get (with_value e.key value (pairs_of later)) key ≡ live (cond same (Some value) (lookup later key))
+        → get (with_pair e.key value (pairs_of later)) key ≡ live (cond same (Some value) (lookup later key))
     by_value rest None true is = rest ∙ ap live (none_later is)
     by_value rest None false is = rest
     by_value rest (Some value) true is = ap (λ (t : Bool). cond t (Some value) (get (pairs_of later) key)) is
@@ -127,7 +127,7 @@ shown_many : (rows : List Entry) → length (rows_shown true rows) ≡ length (p
 shown_many [] = refl
 shown_many (e ∷ later) = by_value (shown_many later) e.value
   where
-    by_value : length (rows_shown true later) ≡ length (pairs_of later) → (value : Option Bytes) → length (cond (is_some value) (e ∷ rows_shown true later) (rows_shown true later)) ≡ length (with_value e.key value (pairs_of later))
+    by_value : length (rows_shown true later) ≡ length (pairs_of later) → (value : Option Bytes) → length (cond (is_some value) (e ∷ rows_shown true later) (rows_shown true later)) ≡ length (with_pair e.key value (pairs_of later))
     by_value rest None = rest
     by_value rest (Some value) = ap suc rest
 

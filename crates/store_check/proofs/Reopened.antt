@@ -1,7 +1,7 @@
 -- The tables of a state are opened once more, row by row.
 use Rattle.std.proofs.Common.{◌≡◌, ◌∙◌, ◌<◌, ◌≤◌, ℕ, zero, suc, inl, inr, List, [], ◌∷◌, ◌++◌, get_or, length, take, refl, ap, arith}
 use Rattle.std.proofs.lemmas.List.Sums.{sum_by-cons}
-use Rattle.std.specs.List.{sum_by}
+use Rattle.std.specs.List.{AllByRecursion, sum_by}
 use Rattle.byte_fields.specs.Faults.{Fault}
 use Rattle.byte_fields.specs.declared.parts.Row.{Row}
 use Rattle.disk_trait.specs.Image.{Image}
@@ -9,6 +9,7 @@ use Rattle.filter_api.specs.Spellings.{Spelling, SpellsOne}
 use Rattle.image_model.proofs.Opening.{all_opened, none_of_opened}
 use Rattle.image_model.specs.Tables.{AreTablesOf}
 use Rattle.map_model.specs.SortedMap.{Bytes}
+use Rattle.state_model.specs.WithoutRanges.{HasNoRange}
 use Rattle.store_check.specs.Summaries.{AreTablesThere, IsTableThere, entries_in, row_entries}
 use Rattle.table_file.proofs.Stands.{opened_stands}
 use Rattle.table_file.specs.Faults.{IsDamagedTable, IsNoDamage, filter_fault_of}
@@ -24,14 +25,15 @@ module _ (spelling : Spelling) (image : Image) where
     pub t : Table
     pub taken : take (suc i) tables ≡ take i tables ++ t ∷ []
     pub is : IsTableOf spelling (get_or rows i no_row) t image
+    pub bare : AllByRecursion HasNoRange tables → HasNoRange t
 
   pub next_table : (rows : List Row) (tables : List Table) (i : ℕ) (no_row : Row) → i < length rows → AreTablesOf spelling rows tables image → NextTable rows tables i no_row
   next_table [] tables i no_row lt are = absurd (omega (arith, lt))
   next_table (row ∷ rows) [] i no_row lt are = elim are [ ]
-  next_table (row ∷ rows) (t ∷ tables) zero no_row lt are = record { t = t; taken = refl; is = are.0 }
+  next_table (row ∷ rows) (t ∷ tables) zero no_row lt are = record { t = t; taken = refl; is = are.0; bare = λ all. all.0 }
   next_table (row ∷ rows) (t ∷ tables) (suc i) no_row lt are =
       let rest = next_table rows tables i no_row (omega (arith, lt)) are.1 in
-      record { t = rest.t; taken = ap (λ (ts : List Table). t ∷ ts) rest.taken; is = rest.is }
+      record { t = rest.t; taken = ap (λ (ts : List Table). t ∷ ts) rest.taken; is = rest.is; bare = λ all. rest.bare all.1 }
 
   pub all_taken : (rows : List Row) (tables : List Table) (n : ℕ) → length rows ≤ n → AreTablesOf spelling rows tables image → take n tables ≡ tables
   all_taken [] [] zero le are = refl

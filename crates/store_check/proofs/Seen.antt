@@ -52,7 +52,7 @@ pages_next (row ∷ later) (suc n) lt =
     let c : (row_at (row ∷ later) (suc n)).pages ≡ (row_at later n).pages = refl in
     omega (arith, a, b, c, pages_next later n (omega (arith, lt)))
 
-next_page : (x : RowIndex) (n : ℕ) → n < length x.index.rows → page_of x n + (row_at x.index.rows n).pages ≡ page_of x (n + 1)
+pub next_page : (x : RowIndex) (n : ℕ) → n < length x.index.rows → page_of x n + (row_at x.index.rows n).pages ≡ page_of x (n + 1)
 next_page x n lt = omega (arith, pages_next x.index.rows n lt)
 
 no_row : IndexRow

@@ -8,7 +8,8 @@ use Rattle.entry_model.specs.Entries.{Entry, IsEntry}
 use Rattle.filter_api.specs.Spellings.{Spelling}
 use Rattle.image_model.proofs.OnlyEntries.{state_has_entries}
 use Rattle.image_model.proofs.Sound.{state_sound}
-use Rattle.image_model.specs.Stands.{IsStateOf}
+use Rattle.byte_fields.specs.declared.parts.Row.{Row}
+use Rattle.image_model.specs.Stands.{IsStateBy, IsStateOf}
 use Rattle.image_model.specs.Tables.{AreTablesOf}
 use Rattle.log_model.specs.Area.{LogIs}
 use Rattle.manifest.specs.Manifest.{Manifest}
@@ -24,7 +25,7 @@ use Rattle.state_model.specs.State.{State}
 use Rattle.state_model.specs.View.{memory, state_map}
 use Rattle.state_model.specs.WithoutRanges.{HasOnlyEntries}
 use Rattle.store_check.proofs.Lives.{merge_is_sound, rows_few, rows_many}
-use Rattle.store_check.specs.Summaries.{AreTablesThere, IsSummaryErrorOf, IsUndamaged, entries_in, numbers_below}
+use Rattle.store_check.specs.Summaries.{AreOfState, AreTablesThere, IsSummaryErrorOf, IsUndamaged, entries_in, numbers_below}
 use Rattle.store_check.specs.declared.summary.SummaryError.{SummaryError}
 use Rattle.table_file.specs.Faults.{IsNoDamage}
 use Rattle.table_file.specs.Opened.{Opened}
@@ -46,10 +47,16 @@ undamaged_given (Err e) P fault is none = undamaged_of fault e none is
 -- ---- what is read again of a state
 
 module _ (spelling : Spelling) (s : State) (image there : Image) (held : there ≡ image) (is : IsStateOf spelling s image) where
-  module _ (m : Manifest) (same : m.version ≡ is.0) where
-    pub tables_again : AreTablesOf spelling m.version.rows s.tables there
-    tables_again = subst (λ (v : Version). AreTablesOf spelling v.rows s.tables there) (sym same) (subst (AreTablesOf spelling is.0.rows s.tables) (sym held) is.1.named.tables)
+  abbrev pub state_again : IsStateOf spelling s there
+  state_again = (is.0, subst (λ (f : Image). IsStateBy spelling is.0 s f) (sym held) is.1)
 
+  pub of_state_again : (rows : List Row) (records : List Change) → rows ≡ is.0.rows → records ≡ s.log → AreOfState spelling s rows records there
+  of_state_again rows records rows_are records_are = record { is = state_again; rows_are = rows_are; records_are = records_are }
+
+  pub tables_again : (rows : List Row) → rows ≡ is.0.rows → AreTablesOf spelling rows s.tables there
+  tables_again rows same = subst (λ (rs : List Row). AreTablesOf spelling rs s.tables there) (sym same) (subst (AreTablesOf spelling is.0.rows s.tables) (sym held) is.1.named.tables)
+
+  module _ (m : Manifest) (same : m.version ≡ is.0) where
     pub log_again : (area : ℕ) → log_page_of area ≡ m.version.log_page → LogIs area s.log there
     log_again area page =
         let same_area : is.1.named.area ≡ area = omega (arith, page, is.1.named.area_is, ap (λ (v : Version). v.log_page) same) in

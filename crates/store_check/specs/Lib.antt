@@ -29,3 +29,4 @@ pub mod Places
 pub mod Said
 pub mod Summaries
 pub mod Tables
+pub mod Values

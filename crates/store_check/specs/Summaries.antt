@@ -13,8 +13,12 @@ use Rattle.table_file.specs.Search.{StandsThere}
 use Rattle.table_file.specs.declared.fault.TableFault.{TableFault}
 use Rattle.table_file.specs.declared.fault.TableFault.TheVariants as table
 use Rattle.image_model.specs.Findings.{Finding}
+use Rattle.image_model.specs.Stands.{IsStateOf}
+use Rattle.range_model.specs.Sources.{Change}
 use Rattle.state_model.specs.State.{State}
 use Rattle.state_model.specs.View.{state_map}
+use Rattle.store_check.specs.declared.error.CheckError.{CheckError}
+use Rattle.store_check.specs.declared.error.CheckError.TheVariants as check
 use Rattle.store_check.specs.declared.summary.Summary.{Summary}
 use Rattle.store_check.specs.declared.summary.SummaryError.{SummaryError}
 use Rattle.store_check.specs.declared.summary.SummaryError.TheVariants as summary
@@ -38,6 +42,13 @@ IsUndamaged (summary.Device cause) = Unit {0}
 IsUndamaged summary.NotAStore = ⊥
 IsUndamaged (summary.Damaged f) = ⊥
 
+-- what was read, and neither memory nor the device
+abbrev pub IsDamage : SummaryError → Type 0
+IsDamage summary.Memory = ⊥
+IsDamage (summary.Device cause) = ⊥
+IsDamage summary.NotAStore = ⊥
+IsDamage (summary.Damaged f) = Unit {0}
+
 -- the device fails only where the count of failed reads rose
 abbrev pub HasSummaryCause : World → World → SummaryError → Type 0
 HasSummaryCause old new summary.Memory = Unit {0}
@@ -50,7 +61,19 @@ IsSummaryErrorOf table.Memory error = error ≡ summary.Memory
 IsSummaryErrorOf (table.Device cause) error = error ≡ summary.Device cause
 IsSummaryErrorOf (table.Damaged d) error = (f : Finding) × (error ≡ summary.Damaged f)
 
+-- the same as it ends a check
+abbrev pub IsSummaryErrorBy : CheckError → SummaryError → Type 0
+IsSummaryErrorBy check.Memory error = error ≡ summary.Memory
+IsSummaryErrorBy (check.Device cause) error = error ≡ summary.Device cause
+IsSummaryErrorBy check.NotAStore error = error ≡ summary.NotAStore
+
 -- ---- the second reading
+
+-- these rows and these records are those of the state of an image
+pub record AreOfState (spelling : Spelling) (s : State) (rows : List Row) (records : List Change) (image : Image) : Type 0 where
+  pub is : IsStateOf spelling s image
+  pub rows_are : rows ≡ is.0.rows
+  pub records_are : records ≡ s.log
 
 abbrev pub row_entries : Row → ℕ
 row_entries row = row.entries

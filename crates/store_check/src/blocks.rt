@@ -141,8 +141,13 @@ fn add_keys(
     Ok(())
 }
 
-// A walk over the entries of the block number `n`, whose bytes these are, or its damage: another sum before a broken rule.
-fn sound_walk(index: &Index, n: u32, bytes: &[u8], buffer: &mut [u8]) -> Result<EntryWalk, Damage>
+/// A walk over the entries of the block number `n`, whose bytes these are, or its damage: another sum before a broken rule.
+pub(crate) fn sound_walk(
+    index: &Index,
+    n: u32,
+    bytes: &[u8],
+    buffer: &mut [u8],
+) -> Result<EntryWalk, Damage>
     requires there { n < length index.now.index.rows }
     requires place { page_bytes * page_of index.now n + length bytes.now ≤ 2 ^ 36 }
     requires room { max_key_bytes ≤ length buffer.old }

@@ -121,7 +121,9 @@ impl Check {
     }
 
     /// What the store has, once [`next`](Check::next) gave nothing at all. All of it is read again: the pairs are counted by one
-    /// merge of the tables and the log. It takes the memory of an opened store, and of a block and a key for each table.
+    /// merge of the tables and the log. It takes the memory of an opened store, and of a block and a key for each table. Where the
+    /// log is empty and all tables are on one level deeper than 0, their entries with a value are counted in place of a merge, and
+    /// it takes that of an index and a block.
     ///
     /// At `Err` memory ran out or the device failed; or it does not hold any more what it held when it was read before.
     pub fn summary<F: RangeFilter, D: Disk>(&self, disk: &mut D) -> Result<Summary, SummaryError>

@@ -27,6 +27,7 @@ mod order;
 mod stage;
 mod summary;
 mod table;
+mod values;
 
 pub use check::Check;
 pub use error::CheckError;

@@ -1,8 +1,9 @@
 //! What a store has of which nothing is wrong.
-ghost use Rattle.std.specs.Prelude.{◌≡◌, ◌≤◌, ◌<◌, ◌+◌, ◌*◌, ◌^◌, List, length, IsTrue, IfOk, IfErr, MatchResult};
+ghost use Rattle.std.specs.Prelude.{◌≡◌, ◌≤◌, ◌<◌, ◌+◌, ◌*◌, ◌^◌, List, length, IsTrue, IfOk, IfErr, IfSome, MatchResult};
 ghost use Rattle.std.specs.List.{AllByRecursion, sum_by};
 ghost use Rattle.block_model.specs.Places.{FitsDevice};
 ghost use Rattle.disk_trait.specs.World.{ReadMoves};
+ghost use Rattle.filter_api.specs.Spellings.{Spelling};
 ghost use Rattle.image_model.specs.Stands.{IsStateOf};
 ghost use Rattle.image_model.specs.Tables.{AreTablesOf};
 ghost use Rattle.key_base.specs.Limits.{log_bytes, max_tables};
@@ -14,15 +15,18 @@ ghost use Rattle.manifest_model.specs.Version.{Version as Written, log_page_of};
 ghost use Rattle.range_model.specs.Sources.{ClearsKeys};
 ghost use Rattle.range_model.specs.Sources as model;
 ghost use Rattle.state_model.specs.State.{State};
+ghost use Rattle.state_model.specs.View.{state_map};
 ghost use Rattle.table_file.specs.Faults.{IsNoDamage};
 ghost use Rattle.table_model.specs.Tables.{Table as Named};
 ghost use Rattle.store_check.specs.Causes.{HasFaultCause, OnlyReads};
-ghost use Rattle.store_check.specs.Summaries.{AreTablesThere, HasSummaryCause, IsSummaryErrorOf, IsSummaryOf, IsUndamaged, row_entries};
+ghost use Rattle.store_check.specs.Summaries.{AreOfState, AreTablesThere, HasSummaryCause, IsDamage, IsSummaryErrorBy, IsSummaryErrorOf, IsSummaryOf, IsUndamaged, row_entries};
 ghost use Rattle.store_check.specs.declared.summary.SummaryError.TheVariants.{Memory as want_of_memory};
 
+use crate::error::CheckError;
 use crate::finding::{Finding, broken_log, found_by};
 use crate::live::live_pairs;
-use byte_fields::Row;
+use crate::values::{are_on_one_level, values_of_tables};
+use byte_fields::{Damage, Row};
 use disk_trait::{Disk, DiskFault};
 use entry_list::Change;
 use filter_api::RangeFilter;
@@ -78,6 +82,26 @@ impl From<TableFault> for SummaryError {
     }
 }
 
+impl From<CheckError> for SummaryError {
+    ghost from_gives = { IsSummaryErrorBy };
+
+    fn from(why: CheckError) -> SummaryError {
+        match why {
+            CheckError::Memory => SummaryError::Memory,
+            CheckError::Device(cause) => SummaryError::Device(cause),
+            CheckError::NotAStore => SummaryError::NotAStore,
+        }
+    }
+}
+
+impl From<Damage> for SummaryError {
+    ghost from_gives = { λ _ error. IsDamage error };
+
+    fn from(damage: Damage) -> SummaryError {
+        SummaryError::Damaged(found_by(damage))
+    }
+}
+
 /// Reads a store again of which nothing is wrong, and counts what it has.
 pub(crate) fn summarize<F: RangeFilter, D: Disk>(
     alloc: Global,
@@ -87,22 +111,85 @@ pub(crate) fn summarize<F: RangeFilter, D: Disk>(
     ensures cause { IfErr result (HasSummaryCause (D.world disk.old) (D.world disk.new)) }
     ensures moves { OnlyReads (D.world disk.old) (D.world disk.new) }
 {
-    // the laws of the layer below, of rows and of tables that are there
-    merge_rows::laws::merged_laws();
-    merge_rows::laws::standing_tables_are_merged();
     let version = version_now(alloc, disk)?;
-    let tables: Tables<F> = open_tables(alloc, disk, &version.rows)?;
     let records = log_records(alloc, disk, version.log_area)?;
     let log = records.len() as u64;
-    let memory = MemTable::fill(records)?;
-    let entries = entries_of(&version.rows);
-    let live = live_pairs(alloc, disk, &tables, &memory, entries + log)?;
+    let live = count_pairs::<F, D>(alloc, disk, &version.rows, records)?;
     Ok(Summary {
-        tables: tables.len() as u64,
-        entries,
+        tables: version.rows.len() as u64,
+        entries: entries_of(&version.rows),
         live,
         log,
     })
+}
+
+// How many pairs the state of these rows and these records has.
+fn count_pairs<F: RangeFilter, D: Disk>(
+    alloc: Global,
+    disk: &mut D,
+    rows: &[Row],
+    records: Vec<Change>,
+) -> Result<u64, SummaryError>
+    requires fits { AllByRecursion FitsDevice rows.now }
+    requires few { length rows.now ≤ max_tables }
+    requires sound { AllByRecursion IsLoggedChange records.items }
+    requires bounds { AllByRecursion ClearsKeys records.items }
+    ensures pairs { (s : State) → IsTrue D.tells → AreOfState F.spelling s rows.now records.items (D.world disk.old).seen.held
+        → MatchResult result (λ pairs. pairs ≡ length (state_map s)) IsUndamaged }
+    ensures cause { IfErr result (HasSummaryCause (D.world disk.old) (D.world disk.new)) }
+    ensures moves { OnlyReads (D.world disk.old) (D.world disk.new) }
+{
+    if let Some(pairs) = count_values(alloc, disk, rows, &records)? {
+        return Ok(pairs);
+    }
+    merge_pairs::<F, D>(alloc, disk, rows, records)
+}
+
+// The same number without a merge, where no key is said twice: there is no record, all tables are on one level deeper than 0, and
+// none has a deleted range. Else `None`.
+fn count_values<D: Disk>(
+    alloc: Global,
+    disk: &mut D,
+    rows: &[Row],
+    records: &[Change],
+) -> Result<Option<u64>, SummaryError>
+    requires fits { AllByRecursion FitsDevice rows.now }
+    requires few { length rows.now ≤ max_tables }
+    ensures pairs { (spelling : Spelling) (s : State) → IsTrue D.tells → AreOfState spelling s rows.now records.now (D.world disk.old).seen.held
+        → MatchResult result (λ pairs. IfSome pairs (λ many. many ≡ length (state_map s))) IsUndamaged }
+    ensures cause { IfErr result (HasSummaryCause (D.world disk.old) (D.world disk.new)) }
+    ensures moves { OnlyReads (D.world disk.old) (D.world disk.new) }
+{
+    if records.is_empty() && are_on_one_level(rows) {
+        return values_of_tables(alloc, disk, rows);
+    }
+    Ok(None)
+}
+
+// The same number by one merge of the tables and the log.
+fn merge_pairs<F: RangeFilter, D: Disk>(
+    alloc: Global,
+    disk: &mut D,
+    rows: &[Row],
+    records: Vec<Change>,
+) -> Result<u64, SummaryError>
+    requires fits { AllByRecursion FitsDevice rows.now }
+    requires few { length rows.now ≤ max_tables }
+    requires sound { AllByRecursion IsLoggedChange records.items }
+    requires bounds { AllByRecursion ClearsKeys records.items }
+    ensures pairs { (s : State) → IsTrue D.tells → AreOfState F.spelling s rows.now records.items (D.world disk.old).seen.held
+        → MatchResult result (λ pairs. pairs ≡ length (state_map s)) IsUndamaged }
+    ensures cause { IfErr result (HasSummaryCause (D.world disk.old) (D.world disk.new)) }
+    ensures moves { OnlyReads (D.world disk.old) (D.world disk.new) }
+{
+    // the laws of the layer below, of rows and of tables that are there
+    merge_rows::laws::merged_laws();
+    merge_rows::laws::standing_tables_are_merged();
+    let most = entries_of(rows) + records.len() as u64;
+    let tables: Tables<F> = open_tables(alloc, disk, rows)?;
+    let memory = MemTable::fill(records)?;
+    let pairs = live_pairs(alloc, disk, &tables, &memory, most)?;
+    Ok(pairs)
 }
 
 // The version that the device holds.
