@@ -261,9 +261,16 @@ const CLEAN: &[u8] = b"clean tables 4 entries 4 live 4 log 0\n";
 
 const WRONG: &[u8] = b"finding block 786432 sum ec7a8b9dd3574ff2 7ed8be8180f1e9fb\nfindings 1\n";
 
-// Whether a check says this, or the beginning of its lines and then that there was no memory; with 6 the output found none.
-fn is_checked(alloc: Global, first: &MemDisk, status: u8, whole: &[u8]) -> Result<bool, Fail> {
-    let end = run_over(alloc, "check", first.bytes())?;
+// Whether a run that only reads says this, or the beginning of its lines and then that there was no memory; with 6 the output
+// found none.
+fn is_told(
+    alloc: Global,
+    word: &str,
+    first: &MemDisk,
+    status: u8,
+    whole: &[u8],
+) -> Result<bool, Fail> {
+    let end = run_over(alloc, word, first.bytes())?;
     let told = match end.status {
         6 => whole.starts_with(&end.said),
         7 => match end.said.as_slice().strip_suffix(MEMORY) {
@@ -287,9 +294,27 @@ fn damaged(alloc: Global, first: &MemDisk) -> Result<Box<MemDisk>, Fail> {
 fn each_allocation_of_a_checking_run_may_be_refused(rt: HostRuntime) -> Result<(), Fail> {
     let alloc = rt.alloc();
     if let Some(first) = four_tables(alloc)? {
-        check_that(&rt, is_checked(alloc, &first.disk, 0, CLEAN)?);
+        check_that(&rt, is_told(alloc, "check", &first.disk, 0, CLEAN)?);
         let wrong = damaged(alloc, &first.disk)?;
-        check_that(&rt, is_checked(alloc, &wrong, 12, WRONG)?);
+        check_that(&rt, is_told(alloc, "check", &wrong, 12, WRONG)?);
+    }
+    check_that_at(&rt, &"the last allocation", is_not_the_last(alloc));
+    Ok(())
+}
+
+// What the store with the four tables has, and its pairs.
+const TABLES: &[u8] =
+    b"table 0 201 3 1 0 0 64 64 64\ntable 0 198 3 1 0 0 64 63 63\ntable 0 195 3 1 0 0 64 62 62\n\
+    table 0 192 3 1 0 0 64 61 61\nstore 512 308 308 5 0 0 0 64\n";
+
+const PAIRS: &[u8] = b"put 61 01\nput 62 02\nput 63 03\nput 64 04\n";
+
+#[test]
+fn each_allocation_of_tables_and_of_a_dump_may_be_refused(rt: HostRuntime) -> Result<(), Fail> {
+    let alloc = rt.alloc();
+    if let Some(first) = four_tables(alloc)? {
+        check_that(&rt, is_told(alloc, "tables", &first.disk, 0, TABLES)?);
+        check_that(&rt, is_told(alloc, "dump", &first.disk, 0, PAIRS)?);
     }
     check_that_at(&rt, &"the last allocation", is_not_the_last(alloc));
     Ok(())

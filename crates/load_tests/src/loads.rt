@@ -38,7 +38,8 @@ fn one_step_of_two_seeds(rt: HostRuntime) -> Result<(), Fail> {
     Ok(())
 }
 
-const USAGE: &[u8] = b"usage: surfstore PATH format|serve|load|settings|grow|check\n";
+const USAGE: &[u8] =
+    b"usage: surfstore PATH format|serve|load|settings|grow|check|fstbuild|fstserve\n";
 
 // Words over a device without a store, the status, and the line that is said.
 const WORDS: [(&str, u8, &[u8]); 7] = [

@@ -8,7 +8,8 @@ use std::process::Abort;
 use std::test::Fail;
 use test_runs::{LAST_EPOCH_SUM, format_1, stands};
 
-const USAGE: &[u8] = b"usage: surfstore PATH format|serve|load|settings|grow|check\n";
+const USAGE: &[u8] =
+    b"usage: surfstore PATH format|serve|load|settings|grow|check|fstbuild|fstserve\n";
 
 /// Lines that make a table of two keys.
 pub const TWO_PUTS: &[u8] = b"put 616131 01\nput 616231 02\nflush\n";

@@ -3,10 +3,11 @@ use crate::asserts::check_same;
 use crate::runs::{base_disk, check, commanded, disk_of, served};
 use std::test::Fail;
 
-const USAGE: &[u8] = b"usage: surfstore PATH format|serve|load|settings|grow|check\n";
+const USAGE: &[u8] =
+    b"usage: surfstore PATH format|serve|load|settings|grow|check|fstbuild|fstserve\n";
 
 // Words over a device without a store, the status, and the line that is said.
-const EXAMPLES: [(&str, u8, &[u8]); 18] = [
+const EXAMPLES: [(&str, u8, &[u8]); 22] = [
     ("", 2, USAGE),
     ("load", 2, USAGE),
     ("serve serve", 2, USAGE),
@@ -60,6 +61,10 @@ const EXAMPLES: [(&str, u8, &[u8]); 18] = [
         0,
         b"formatted 16777216\n",
     ),
+    ("fstbuild", 7, b"memory\n"),
+    ("fstserve", 7, b"memory\n"),
+    ("fstbuild 61 01", 2, USAGE),
+    ("fstserve --pages 512", 2, USAGE),
     ("--version", 0, b"surfstore 0.1.0\n"),
 ];
 
@@ -82,7 +87,7 @@ fn settings_out_of_range_are_told_before_any_call(rt: HostRuntime) -> Result<(),
     Ok(())
 }
 
-const HELP_PARTS: [&str; 16] = [
+const HELP_PARTS: [&str; 18] = [
     "format",
     "serve",
     "--pages",
@@ -99,6 +104,8 @@ const HELP_PARTS: [&str; 16] = [
     "grow",
     "limit epoch, of settings and grow",
     "With 0 a large filter",
+    "fstbuild",
+    "fstserve",
 ];
 
 // The first of these parts that a text lacks.
@@ -120,6 +127,15 @@ fn help_tells_each_option(rt: HostRuntime) -> Result<(), Fail> {
     let end = commanded(alloc, "--help", disk_of(alloc, b"")?)?;
     check_same(&rt, &end.status, &0);
     check_same(&rt, &missing(end.said.as_slice()), &None);
+    Ok(())
+}
+
+// The programs of a static map get the device: here they have no memory for a map, and see that one is there.
+#[test]
+fn a_map_is_built_where_none_is(rt: HostRuntime) -> Result<(), Fail> {
+    let alloc = rt.alloc();
+    let end = commanded(alloc, "fstbuild", disk_of(alloc, &[1])?)?;
+    check(&rt, &end, 8, b"taken\n", 0);
     Ok(())
 }
 

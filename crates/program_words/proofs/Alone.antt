@@ -12,7 +12,7 @@ use Rattle.filter_api.specs.declared.settings.Field.{Field}
 use Rattle.filter_api.specs.declared.settings.Field.TheVariants as field
 use Rattle.filter_api.specs.declared.settings.Settings.{Settings}
 use Rattle.key_base.specs.Limits.{max_hash_bits, max_ratio, max_real_bits}
-use Rattle.program_words.specs.Asked.{AreRefusedWords, HasBadNumber, IsCheck, IsDump, IsFormat, IsGrow, IsHelp, IsLoad, IsLoadInRange, IsServe, IsSettings, IsSettingsInRange, IsSubcommand, IsTables, OpensStore, OpensWithoutGrowing, is_request, load_of, option_number, wanted_of, wanted_settings_of}
+use Rattle.program_words.specs.Asked.{AreRefusedWords, HasBadNumber, IsCheck, IsDump, IsFormat, IsGrow, IsHelp, IsLoad, IsLoadInRange, IsMapBuild, IsMapServe, IsServe, IsSettings, IsSettingsInRange, IsSubcommand, IsTables, OpensStore, OpensWithoutGrowing, is_request, load_of, option_number, wanted_of, wanted_settings_of}
 use Rattle.program_words.specs.CommandLine.{store_app}
 use Rattle.program_words.specs.Loads.{is_load_count}
 use Rattle.program_words.specs.NewStores.{IsStoreOf, first_bad_word}
@@ -125,6 +125,12 @@ tables_not_bad words field is bad = other_not_bad words (codes "tables") field r
 pub dump_not_bad : (words : List Text) (field : Field) → IsDump words → HasBadNumber words field → ⊥
 dump_not_bad words field is bad = other_not_bad words (codes "dump") field refl refl refl refl is bad
 
+pub build_not_bad : (words : List Text) (field : Field) → IsMapBuild words → HasBadNumber words field → ⊥
+build_not_bad words field is bad = other_not_bad words (codes "fstbuild") field refl refl refl refl is bad
+
+pub serve_map_not_bad : (words : List Text) (field : Field) → IsMapServe words → HasBadNumber words field → ⊥
+serve_map_not_bad words field is bad = other_not_bad words (codes "fstserve") field refl refl refl refl is bad
+
 -- of two numbers out of range, the first of one subcommand
 pub same_field : (words : List Text) (x y : Field) → HasBadNumber words x → HasBadNumber words y → x ≡ y
 same_field words x y a b = elim a [
@@ -234,6 +240,12 @@ module _ (words : List Text) where
 
   pub opens_not_dump : OpensStore words → IsDump words → ⊥
   opens_not_dump is dump = opens_not_other (codes "dump") refl refl refl refl refl is dump
+
+  pub opens_not_build : OpensStore words → IsMapBuild words → ⊥
+  opens_not_build is build = opens_not_other (codes "fstbuild") refl refl refl refl refl is build
+
+  pub opens_not_serve_map : OpensStore words → IsMapServe words → ⊥
+  opens_not_serve_map is serve = opens_not_other (codes "fstserve") refl refl refl refl refl is serve
 
   -- words that are taken and not out of range ask for something
   pub asks_nothing : fault_of store_app words ≡ [] → ((field : Field) → HasBadNumber words field → ⊥) → AreRefusedWords words ⊎ (IsHelp words ⊎ ((field : Field) × HasBadNumber words field)) → ⊥

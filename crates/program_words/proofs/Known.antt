@@ -1,4 +1,4 @@
--- Words that are taken have a subcommand, and one of the eight.
+-- Words that are taken have a subcommand, and one of the ten.
 use Rattle.std.proofs.Common.{◌≡◌, ◌⊎◌, inl, inr, refl, sym, subst, List, [], ◌∷◌, Bool, true, false, cond}
 use Rattle.std.specs.Prelude.{Option, Some, None, Result, Ok, Err, IfOk, codes, find, is_some, not, ◌&&◌, option_map}
 use Rattle.std.specs.List.{AllByRecursion, list_any}
@@ -39,7 +39,7 @@ level_checked s names h words has below is =
 -- ---- and it is known
 
 abbrev Named : Shape → Type 0
-Named s = (s.name ≡ codes "format") ⊎ (s.name ≡ codes "serve") ⊎ (s.name ≡ codes "load") ⊎ (s.name ≡ codes "settings") ⊎ (s.name ≡ codes "grow") ⊎ (s.name ≡ codes "check") ⊎ (s.name ≡ codes "tables") ⊎ (s.name ≡ codes "dump")
+Named s = (s.name ≡ codes "format") ⊎ (s.name ≡ codes "serve") ⊎ (s.name ≡ codes "load") ⊎ (s.name ≡ codes "settings") ⊎ (s.name ≡ codes "grow") ⊎ (s.name ≡ codes "check") ⊎ (s.name ≡ codes "tables") ⊎ (s.name ≡ codes "dump") ⊎ (s.name ≡ codes "fstbuild") ⊎ (s.name ≡ codes "fstserve")
 
 picked : (met : Bool) (words : List Text) (s : Shape) (other : Option Shape) → Named s
     → (is_some (option_map (λ (t : Shape). rows_at t words) other) ≡ true → IsKnown (option_map (λ (t : Shape). rows_at t words) other))
@@ -64,7 +64,7 @@ built_known a h words named required taken =
 
 words_known : (words : List Text) → fault_of store_app words ≡ [] → IsKnown (subcommand_of store_app words)
 words_known words taken =
-    built_known (built store_app) nothing_held (argument_words store_app words) (inl refl, (inr (inl refl), (inr (inr (inl refl)), (inr (inr (inr (inl refl))), (inr (inr (inr (inr (inl refl)))), (inr (inr (inr (inr (inr (inl refl))))), (inr (inr (inr (inr (inr (inr (inl refl)))))), (inr (inr (inr (inr (inr (inr (inr refl)))))), tt)))))))) refl taken
+    built_known (built store_app) nothing_held (argument_words store_app words) (inl refl, (inr (inl refl), (inr (inr (inl refl)), (inr (inr (inr (inl refl))), (inr (inr (inr (inr (inl refl)))), (inr (inr (inr (inr (inr (inl refl))))), (inr (inr (inr (inr (inr (inr (inl refl)))))), (inr (inr (inr (inr (inr (inr (inr (inl refl))))))), (inr (inr (inr (inr (inr (inr (inr (inr (inl refl)))))))), (inr (inr (inr (inr (inr (inr (inr (inr (inr refl)))))))), tt)))))))))) refl taken
 
 pub matches_known : (words : List Text) (r : Result ArgMatches Error) → FailsBy (fault_of store_app words) r → IfOk r (λ m. subcommand_rows_of m ≡ subcommand_of store_app words) → IfOk r (λ m. IsKnown (subcommand_rows_of m))
 matches_known words (Ok m) taken same = subst IsKnown (sym same) (words_known words taken)

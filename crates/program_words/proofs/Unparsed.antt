@@ -38,6 +38,8 @@ asks_by_kind words kind (asked.Grow pages) has comes = absurd comes
 asks_by_kind words kind asked.Check has comes = absurd comes
 asks_by_kind words kind asked.Tables has comes = absurd comes
 asks_by_kind words kind asked.Dump has comes = absurd comes
+asks_by_kind words kind asked.BuildMap has comes = absurd comes
+asks_by_kind words kind asked.ServeMap has comes = absurd comes
 asks_by_kind words kind (asked.Help text) has comes = elim has [
   | inl memory ↦ absurd (let bad : false ≡ true = sym (ap is_request memory) ∙ comes in cc)
   | inr among ↦ any_among is_request kind (fault_of store_app words) among comes

@@ -83,6 +83,12 @@ IsTables words = (rows : List Row) × IsSubcommand words (codes "tables") rows
 abbrev pub IsDump : List Text → Type 0
 IsDump words = (rows : List Row) × IsSubcommand words (codes "dump") rows
 
+abbrev pub IsMapBuild : List Text → Type 0
+IsMapBuild words = (rows : List Row) × IsSubcommand words (codes "fstbuild") rows
+
+abbrev pub IsMapServe : List Text → Type 0
+IsMapServe words = (rows : List Row) × IsSubcommand words (codes "fstserve") rows
+
 -- a load that has not too many steps, and settings that are in range
 abbrev pub IsLoadInRange : List Text → Load → Type 0
 IsLoadInRange words load = IsLoad words load × (is_load_count load.count ≡ true)
@@ -124,17 +130,19 @@ WordsAsk words (asked.Grow pages) = IsGrow words pages
 WordsAsk words asked.Check = IsCheck words
 WordsAsk words asked.Tables = IsTables words
 WordsAsk words asked.Dump = IsDump words
+WordsAsk words asked.BuildMap = IsMapBuild words
+WordsAsk words asked.ServeMap = IsMapServe words
 WordsAsk words (asked.Help text) = IsHelp words
 WordsAsk words asked.Refused = AreRefusedWords words
 WordsAsk words asked.Memory = Unit {0}
 
 -- ---- on the way
 
--- a subcommand of the eight
+-- a subcommand of the ten
 abbrev pub IsKnown : Option (Text × List Row) → Type 0
 IsKnown None = ⊥
 IsKnown (Some found) =
-    (found.0 ≡ codes "format") ⊎ (found.0 ≡ codes "serve") ⊎ (found.0 ≡ codes "load") ⊎ (found.0 ≡ codes "settings") ⊎ (found.0 ≡ codes "grow") ⊎ (found.0 ≡ codes "check") ⊎ (found.0 ≡ codes "tables") ⊎ (found.0 ≡ codes "dump")
+    (found.0 ≡ codes "format") ⊎ (found.0 ≡ codes "serve") ⊎ (found.0 ≡ codes "load") ⊎ (found.0 ≡ codes "settings") ⊎ (found.0 ≡ codes "grow") ⊎ (found.0 ≡ codes "check") ⊎ (found.0 ≡ codes "tables") ⊎ (found.0 ≡ codes "dump") ⊎ (found.0 ≡ codes "fstbuild") ⊎ (found.0 ≡ codes "fstserve")
 
 -- an answer without matches, by its kind; a text that was asked for may have found no memory
 abbrev pub ComesOf : ErrorKind → Asked → Type 0
@@ -147,6 +155,8 @@ ComesOf kind (asked.Grow pages) = ⊥
 ComesOf kind asked.Check = ⊥
 ComesOf kind asked.Tables = ⊥
 ComesOf kind asked.Dump = ⊥
+ComesOf kind asked.BuildMap = ⊥
+ComesOf kind asked.ServeMap = ⊥
 ComesOf kind (asked.Help text) = is_request kind ≡ true
 ComesOf kind asked.Refused = (is_request kind ≡ false) × (kind ≢ OutOfMemory)
 ComesOf kind asked.Memory = (kind ≡ OutOfMemory) ⊎ (is_request kind ≡ true)

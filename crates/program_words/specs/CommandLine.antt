@@ -52,12 +52,18 @@ tables_app = new_app (codes "tables")
 abbrev pub dump_app : App
 dump_app = new_app (codes "dump")
 
+abbrev pub fstbuild_app : App
+fstbuild_app = new_app (codes "fstbuild")
+
+abbrev pub fstserve_app : App
+fstserve_app = new_app (codes "fstserve")
+
 abbrev pub load_app : App
 load_app = with_rule (with_rule (new_app (codes "load")) (required (number_rule (codes "seed")))) (required (number_rule (codes "count")))
 
--- One of the eight, with no word before it. `--help` is known everywhere, `--version` before a subcommand, and `help` is no
+-- One of the ten, with no word before it. `--help` is known everywhere, `--version` before a subcommand, and `help` is no
 -- subcommand.
 abbrev pub store_app : App
-store_app = with_subcommand (with_subcommand (with_subcommand (with_subcommand (with_subcommand (with_subcommand (with_subcommand (with_subcommand
+store_app = with_subcommand (with_subcommand (with_subcommand (with_subcommand (with_subcommand (with_subcommand (with_subcommand (with_subcommand (with_subcommand (with_subcommand
     (on_top (λ s. record s { no_binary_name = true; subcommand_required = true; disable_help_subcommand = true; has_version = true }) (new_app (codes "surfstore")))
-    format_app.top) serve_app.top) load_app.top) settings_app.top) grow_app.top) check_app.top) tables_app.top) dump_app.top
+    format_app.top) serve_app.top) load_app.top) settings_app.top) grow_app.top) check_app.top) tables_app.top) dump_app.top) fstbuild_app.top) fstserve_app.top

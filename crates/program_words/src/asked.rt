@@ -39,6 +39,10 @@ pub enum Asked {
     Tables,
     /// That each pair is said, as the line that puts it.
     Dump,
+    /// That a static map is built of lines.
+    BuildMap,
+    /// That lines are answered by a static map.
+    ServeMap,
     /// A text: help, or the version.
     Help(String),
     /// Nothing: clap refuses the words.
@@ -126,6 +130,12 @@ fn asked_by(matches: &ArgMatches<'_>) -> Asked
     }
     if matches.subcommand_matches("tables").is_some() {
         return Asked::Tables;
+    }
+    if matches.subcommand_matches("fstbuild").is_some() {
+        return Asked::BuildMap;
+    }
+    if matches.subcommand_matches("fstserve").is_some() {
+        return Asked::ServeMap;
     }
     match matches.subcommand_matches("dump") {
         Some(_) => Asked::Dump,

@@ -3,7 +3,7 @@ ghost use Rattle.std.specs.Prelude.{◌≡◌, IfOk, codes, false};
 ghost use Rattle.clap.specs.Simple.{app_of, with_rule};
 ghost use Rattle.clap.specs.Walk.{rule_of};
 ghost use Rattle.clap.specs.declared.builder.command.Command.TheViews.{out-Command as fields_of};
-ghost use Rattle.program_words.specs.CommandLine.{check_app, dump_app, format_app, grow_app, load_app, number_rule, option_rule, required, serve_app, settings_app, store_app, tables_app, with_default, with_filter_options, with_number_options, with_pages_option};
+ghost use Rattle.program_words.specs.CommandLine.{check_app, dump_app, format_app, fstbuild_app, fstserve_app, grow_app, load_app, number_rule, option_rule, required, serve_app, settings_app, store_app, tables_app, with_default, with_filter_options, with_number_options, with_pages_option};
 
 use clap::{Arg, Command, value_parser};
 use std::alloc::{AllocError, Global};
@@ -25,6 +25,10 @@ const CHECK_ABOUT: &str = "Read the whole store, and say what is wrong with it";
 const TABLES_ABOUT: &str = "Say what each table has, and what the store has";
 
 const DUMP_ABOUT: &str = "Say each pair, as the line that puts it";
+
+const BUILD_MAP_ABOUT: &str = "Build a static map of lines K V, read only, unless one is there";
+
+const SERVE_MAP_ABOUT: &str = "Answer the lines of standard input by a static map";
 
 // What the prompt answers, behind the help of the program and of `serve`.
 const ANSWERS: &str = "\
@@ -81,10 +85,10 @@ Exit statuses:
   0  all was answered, or done     5  damage was read
   2  wrong words                   6  the output failed
   3  the input failed              7  no memory to begin with
-  4  the device failed             8  no store there, a store there already, or
+  4  the device failed             8  no store or map there, or one already, or
   9  2^40 bytes of input              settings out of range
  10  limit epoch, of settings and grow: the store is as before
- 12  check found what is wrong: its lines say where";
+ 11  fstbuild: its lines are no map  12  check found what is wrong";
 
 // How large a store is made, behind the help of `format`.
 const ROOM: &str = "\
@@ -148,9 +152,42 @@ const PAIRS: &str = "\
 It changes nothing. A line for each pair, by rising keys:
   put K V
 The prompt of another store takes these lines: that is a copy, a way to another
-variant or to more pages, and a backup. At status 4 or 5 the last line is as of
-serve, and the lines before it are those of some first pairs. Example:
-  $ surfstore old dump | surfstore new serve";
+variant or to more pages, and a backup. It is whole only where the dump ends
+with 0 and each line is answered ok. At status 4 or 5 the last line is as of
+serve. Example, which says nothing more where all pairs are there:
+  $ surfstore old dump > pairs && surfstore new serve < pairs | grep -vx ok";
+
+// What a build reads, behind the help of `fstbuild`.
+const MAP_LINES: &str = "\
+The file at PATH is then a static map and no store. Never build over a file that
+a store may be in: of it byte 0 alone is looked at. Lines are K V in hex, V may
+be -, and K rises from line to line: LC_ALL=C sort puts lines in lower case so.
+It says one line:
+  built N               a map of N pairs is there, and lasts
+  taken                 byte 0 is 1, of a map or a store: nothing changes, and
+                        the status is 8
+  bad line N code C     status 11: line N is the first bad one. C is 1 too long,
+                        3 not two words, 4 no hex, 7 a key of no byte or over
+                        1,024, 8 a value over 65,536, 6 not above the one before
+  too many              over 1,000,000 lines: status 11
+  too large N           the map would have N bytes, over 2^31: status 11
+  no keys               no line: status 11
+After status 4 or 6 the map may be there or not: fstserve tells. A map does not
+change: build another file, and rename it over the first. Example:
+  $ printf '61 01\n6162 02\n' | surfstore words fstbuild
+  built 2";
+
+// What a map answers, behind the help of `fstserve`.
+const MAP_ANSWERS: &str = "\
+It changes nothing. Lines are get, seek, range, count and quit, as of serve; any
+other verb is bad 2.
+  memory                to a seek or a range, or before the first line: status 7
+Before the first line it may also end with
+  not a map             no static map is there: status 8
+  damaged map P R       its bytes break rule R of their format at P: status 5
+Example:
+  $ printf 'get 6162\n' | surfstore words fstserve
+  val 02";
 
 // An option with a number of its own, which its help calls by a letter.
 fn number_option<'a>(alloc: Global, name: &'a str, letter: &'a str, help: &'a str) -> Arg<'a>
@@ -341,6 +378,26 @@ fn dump_command<'a>(alloc: Global) -> Command<'a>
         .override_usage("surfstore PATH dump")
 }
 
+fn fstbuild_command<'a>(alloc: Global) -> Command<'a>
+    ensures app { app_of result ≡ fstbuild_app }
+    ensures local { (fields_of result).has_globals ≡ false }
+{
+    Command::new(alloc, "fstbuild")
+        .about(BUILD_MAP_ABOUT)
+        .after_help(MAP_LINES)
+        .override_usage("surfstore PATH fstbuild")
+}
+
+fn fstserve_command<'a>(alloc: Global) -> Command<'a>
+    ensures app { app_of result ≡ fstserve_app }
+    ensures local { (fields_of result).has_globals ≡ false }
+{
+    Command::new(alloc, "fstserve")
+        .about(SERVE_MAP_ABOUT)
+        .after_help(MAP_ANSWERS)
+        .override_usage("surfstore PATH fstserve")
+}
+
 fn load_command<'a>(alloc: Global) -> Result<Command<'a>, AllocError>
     ensures app { IfOk result (λ c. app_of c ≡ load_app) }
     ensures local { IfOk result (λ c. (fields_of c).has_globals ≡ false) }
@@ -382,5 +439,7 @@ pub fn store_command<'a>(alloc: Global) -> Result<Command<'a>, AllocError>
     let with_grow = with_settings.subcommand(grow)?;
     let with_check = with_grow.subcommand(check_command(alloc))?;
     let with_tables = with_check.subcommand(tables_command(alloc))?;
-    with_tables.subcommand(dump_command(alloc))
+    let with_dump = with_tables.subcommand(dump_command(alloc))?;
+    let with_fstbuild = with_dump.subcommand(fstbuild_command(alloc))?;
+    with_fstbuild.subcommand(fstserve_command(alloc))
 }

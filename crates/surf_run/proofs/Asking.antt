@@ -7,8 +7,8 @@ use Rattle.clap.specs.Walk.{Text}
 use Rattle.filter_api.specs.Ranges.{InRange}
 use Rattle.filter_api.specs.declared.settings.Field.{Field}
 use Rattle.filter_api.specs.declared.settings.Settings.{Settings}
-use Rattle.program_words.proofs.Alone.{apart, asks_nothing, check_not_bad, dump_not_bad, format_not_bad, grow_not_bad, load_not_bad, not_both_ways, not_grow, not_help, number_taken, opens_not_bad, opens_not_check, opens_not_dump, opens_not_format, opens_not_tables, opens_taken, same_field, same_load, same_pages, same_settings, same_store, same_wanted, serve_not_bad, settings_in_range, settings_not_bad, tables_not_bad}
-use Rattle.program_words.specs.Asked.{AreRefusedWords, HasBadNumber, IsCheck, IsDump, IsFormat, IsGrow, IsHelp, IsLoadInRange, IsServe, IsSettingsInRange, IsTables, OpensStore, OpensWithoutGrowing, WordsAsk, is_request}
+use Rattle.program_words.proofs.Alone.{apart, asks_nothing, build_not_bad, check_not_bad, dump_not_bad, format_not_bad, grow_not_bad, load_not_bad, not_both_ways, not_grow, not_help, number_taken, opens_not_bad, opens_not_build, opens_not_check, opens_not_dump, opens_not_format, opens_not_serve_map, opens_not_tables, opens_taken, same_field, same_load, same_pages, same_settings, same_store, same_wanted, serve_map_not_bad, serve_not_bad, settings_in_range, settings_not_bad, tables_not_bad}
+use Rattle.program_words.specs.Asked.{AreRefusedWords, HasBadNumber, IsCheck, IsDump, IsFormat, IsGrow, IsHelp, IsLoadInRange, IsMapBuild, IsMapServe, IsServe, IsSettingsInRange, IsTables, OpensStore, OpensWithoutGrowing, WordsAsk, is_request}
 use Rattle.program_words.specs.CommandLine.{store_app}
 use Rattle.program_words.specs.NewStores.{IsStoreOf, first_bad_word}
 use Rattle.program_words.specs.declared.asked.Asked.{Asked}
@@ -17,7 +17,7 @@ use Rattle.program_words.specs.declared.load.Load.{Load}
 use Rattle.program_words.specs.declared.new_store.NewStore.{NewStore}
 use Rattle.program_words.specs.declared.new_store.Wanted.{Wanted}
 use Rattle.surf_run.specs.Resetting.{AskFor}
-use Rattle.surf_run.specs.Run.{AskNothing, HasSettingsInRange, IfBadSettings, IfCheck, IfDump, IfFormat, IfHelp, IfLoad, IfOpens, IfOpensWithoutGrowing, IfRefused, IfReset, IfServe, IfTables, IfUnserved, IsCheckAsk, IsLoadAsk, IsResetAsk, IsRefusedAsk}
+use Rattle.surf_run.specs.Run.{AskNothing, HasSettingsInRange, IfBadSettings, IfBuildMap, IfCheck, IfDump, IfFormat, IfHelp, IfLoad, IfOpens, IfOpensWithoutGrowing, IfRefused, IfReset, IfServe, IfServeMap, IfTables, IfUnserved, IsBuildMapAsk, IsCheckAsk, IsLoadAsk, IsResetAsk, IsRefusedAsk, IsServeMapAsk}
 use Rattle.surf_run.specs.declared.new_numbers.NewNumbers.{NewNumbers}
 use Rattle.surf_run.specs.declared.new_numbers.NewNumbers.TheVariants as new
 
@@ -32,6 +32,8 @@ module _ (words : List Text) where
   if_serve asked.Check P is asks holds = absurd (apart words (codes "serve") (codes "check") refl refl is asks)
   if_serve asked.Tables P is asks holds = absurd (apart words (codes "serve") (codes "tables") refl refl is asks)
   if_serve asked.Dump P is asks holds = absurd (apart words (codes "serve") (codes "dump") refl refl is asks)
+  if_serve asked.BuildMap P is asks holds = absurd (apart words (codes "serve") (codes "fstbuild") refl refl is asks)
+  if_serve asked.ServeMap P is asks holds = absurd (apart words (codes "serve") (codes "fstserve") refl refl is asks)
   if_serve asked.Memory P is asks holds = holds
   if_serve (asked.Format store) P is asks holds = absurd (apart words (codes "serve") (codes "format") refl refl is (asks.1.0, asks.1.1))
   if_serve (asked.BadSettings field) P is asks holds = absurd (serve_not_bad words field is asks)
@@ -46,6 +48,8 @@ module _ (words : List Text) where
   if_load asked.Check load P Q is asks holds starved = absurd (apart words (codes "load") (codes "check") refl refl (is.0.0, is.0.1) asks)
   if_load asked.Tables load P Q is asks holds starved = absurd (apart words (codes "load") (codes "tables") refl refl (is.0.0, is.0.1) asks)
   if_load asked.Dump load P Q is asks holds starved = absurd (apart words (codes "load") (codes "dump") refl refl (is.0.0, is.0.1) asks)
+  if_load asked.BuildMap load P Q is asks holds starved = absurd (apart words (codes "load") (codes "fstbuild") refl refl (is.0.0, is.0.1) asks)
+  if_load asked.ServeMap load P Q is asks holds starved = absurd (apart words (codes "load") (codes "fstserve") refl refl (is.0.0, is.0.1) asks)
   if_load asked.Memory load P Q is asks holds starved = starved holds
   if_load (asked.Format store) load P Q is asks holds starved = absurd (apart words (codes "load") (codes "format") refl refl (is.0.0, is.0.1) (asks.1.0, asks.1.1))
   if_load (asked.BadSettings field) load P Q is asks holds starved = absurd (load_not_bad words load field is asks)
@@ -60,6 +64,8 @@ module _ (words : List Text) where
   if_settings asked.Check settings P Q is asks holds starved = absurd (apart words (codes "settings") (codes "check") refl refl (is.1.0, is.1.1) asks)
   if_settings asked.Tables settings P Q is asks holds starved = absurd (apart words (codes "settings") (codes "tables") refl refl (is.1.0, is.1.1) asks)
   if_settings asked.Dump settings P Q is asks holds starved = absurd (apart words (codes "settings") (codes "dump") refl refl (is.1.0, is.1.1) asks)
+  if_settings asked.BuildMap settings P Q is asks holds starved = absurd (apart words (codes "settings") (codes "fstbuild") refl refl (is.1.0, is.1.1) asks)
+  if_settings asked.ServeMap settings P Q is asks holds starved = absurd (apart words (codes "settings") (codes "fstserve") refl refl (is.1.0, is.1.1) asks)
   if_settings asked.Memory settings P Q is asks holds starved = starved holds
   if_settings (asked.Format store) settings P Q is asks holds starved = absurd (apart words (codes "settings") (codes "format") refl refl (is.1.0, is.1.1) (asks.1.0, asks.1.1))
   if_settings (asked.BadSettings field) settings P Q is asks holds starved = absurd (settings_not_bad words settings field is asks)
@@ -74,6 +80,8 @@ module _ (words : List Text) where
   if_grow asked.Check pages P Q is asks holds starved = absurd (apart words (codes "grow") (codes "check") refl refl (is.0, is.1) asks)
   if_grow asked.Tables pages P Q is asks holds starved = absurd (apart words (codes "grow") (codes "tables") refl refl (is.0, is.1) asks)
   if_grow asked.Dump pages P Q is asks holds starved = absurd (apart words (codes "grow") (codes "dump") refl refl (is.0, is.1) asks)
+  if_grow asked.BuildMap pages P Q is asks holds starved = absurd (apart words (codes "grow") (codes "fstbuild") refl refl (is.0, is.1) asks)
+  if_grow asked.ServeMap pages P Q is asks holds starved = absurd (apart words (codes "grow") (codes "fstserve") refl refl (is.0, is.1) asks)
   if_grow asked.Memory pages P Q is asks holds starved = starved holds
   if_grow (asked.Format store) pages P Q is asks holds starved = absurd (apart words (codes "grow") (codes "format") refl refl (is.0, is.1) (asks.1.0, asks.1.1))
   if_grow (asked.BadSettings field) pages P Q is asks holds starved = absurd (grow_not_bad words pages field is asks)
@@ -92,6 +100,8 @@ module _ (words : List Text) where
   if_opens asked.Check P is asks holds = absurd (opens_not_check words is asks)
   if_opens asked.Tables P is asks holds = absurd (opens_not_tables words is asks)
   if_opens asked.Dump P is asks holds = absurd (opens_not_dump words is asks)
+  if_opens asked.BuildMap P is asks holds = absurd (opens_not_build words is asks)
+  if_opens asked.ServeMap P is asks holds = absurd (opens_not_serve_map words is asks)
   if_opens asked.Memory P is asks holds = holds
   if_opens (asked.Format store) P is asks holds = absurd (opens_not_format words asks.0 is asks.1)
   if_opens (asked.BadSettings field) P is asks holds = absurd (opens_not_bad words field is asks)
@@ -106,6 +116,8 @@ module _ (words : List Text) where
   if_opens_without_growing asked.Check P is asks holds = absurd (opens_not_check words (inl is) asks)
   if_opens_without_growing asked.Tables P is asks holds = absurd (opens_not_tables words (inl is) asks)
   if_opens_without_growing asked.Dump P is asks holds = absurd (opens_not_dump words (inl is) asks)
+  if_opens_without_growing asked.BuildMap P is asks holds = absurd (opens_not_build words (inl is) asks)
+  if_opens_without_growing asked.ServeMap P is asks holds = absurd (opens_not_serve_map words (inl is) asks)
   if_opens_without_growing asked.Memory P is asks holds = holds
   if_opens_without_growing (asked.Format store) P is asks holds = absurd (opens_not_format words asks.0 (inl is) asks.1)
   if_opens_without_growing (asked.BadSettings field) P is asks holds = absurd (opens_not_bad words field (inl is) asks)
@@ -120,6 +132,8 @@ module _ (words : List Text) where
   if_check asked.Check P is asks holds = holds
   if_check asked.Tables P is asks holds = absurd (apart words (codes "check") (codes "tables") refl refl is asks)
   if_check asked.Dump P is asks holds = absurd (apart words (codes "check") (codes "dump") refl refl is asks)
+  if_check asked.BuildMap P is asks holds = absurd (apart words (codes "check") (codes "fstbuild") refl refl is asks)
+  if_check asked.ServeMap P is asks holds = absurd (apart words (codes "check") (codes "fstserve") refl refl is asks)
   if_check asked.Memory P is asks holds = holds
   if_check (asked.Format store) P is asks holds = absurd (apart words (codes "check") (codes "format") refl refl is (asks.1.0, asks.1.1))
   if_check (asked.BadSettings field) P is asks holds = absurd (check_not_bad words field is asks)
@@ -134,6 +148,8 @@ module _ (words : List Text) where
   if_tables asked.Check P is asks holds = absurd (apart words (codes "tables") (codes "check") refl refl is asks)
   if_tables asked.Tables P is asks holds = holds
   if_tables asked.Dump P is asks holds = absurd (apart words (codes "tables") (codes "dump") refl refl is asks)
+  if_tables asked.BuildMap P is asks holds = absurd (apart words (codes "tables") (codes "fstbuild") refl refl is asks)
+  if_tables asked.ServeMap P is asks holds = absurd (apart words (codes "tables") (codes "fstserve") refl refl is asks)
   if_tables asked.Memory P is asks holds = holds
   if_tables (asked.Format store) P is asks holds = absurd (apart words (codes "tables") (codes "format") refl refl is (asks.1.0, asks.1.1))
   if_tables (asked.BadSettings field) P is asks holds = absurd (tables_not_bad words field is asks)
@@ -148,11 +164,45 @@ module _ (words : List Text) where
   if_dump asked.Check P is asks holds = absurd (apart words (codes "dump") (codes "check") refl refl is asks)
   if_dump asked.Tables P is asks holds = absurd (apart words (codes "dump") (codes "tables") refl refl is asks)
   if_dump asked.Dump P is asks holds = holds
+  if_dump asked.BuildMap P is asks holds = absurd (apart words (codes "dump") (codes "fstbuild") refl refl is asks)
+  if_dump asked.ServeMap P is asks holds = absurd (apart words (codes "dump") (codes "fstserve") refl refl is asks)
   if_dump asked.Memory P is asks holds = holds
   if_dump (asked.Format store) P is asks holds = absurd (apart words (codes "dump") (codes "format") refl refl is (asks.1.0, asks.1.1))
   if_dump (asked.BadSettings field) P is asks holds = absurd (dump_not_bad words field is asks)
   if_dump (asked.Help text) P is asks holds = absurd (not_help words is.1.taken asks)
   if_dump asked.Refused P is asks holds = absurd (asks.fails is.1.taken)
+
+  pub if_build_map : (a : Asked) (P : Type 0) → IsMapBuild words → WordsAsk words a → IfBuildMap a P → P
+  if_build_map asked.Serve P is asks holds = absurd (apart words (codes "fstbuild") (codes "serve") refl refl is asks)
+  if_build_map (asked.Load load) P is asks holds = absurd (apart words (codes "fstbuild") (codes "load") refl refl is (asks.0.0, asks.0.1))
+  if_build_map (asked.Settings settings) P is asks holds = absurd (apart words (codes "fstbuild") (codes "settings") refl refl is (asks.1.0, asks.1.1))
+  if_build_map (asked.Grow pages) P is asks holds = absurd (apart words (codes "fstbuild") (codes "grow") refl refl is (asks.0, asks.1))
+  if_build_map asked.Check P is asks holds = absurd (apart words (codes "fstbuild") (codes "check") refl refl is asks)
+  if_build_map asked.Tables P is asks holds = absurd (apart words (codes "fstbuild") (codes "tables") refl refl is asks)
+  if_build_map asked.Dump P is asks holds = absurd (apart words (codes "fstbuild") (codes "dump") refl refl is asks)
+  if_build_map asked.BuildMap P is asks holds = holds
+  if_build_map asked.ServeMap P is asks holds = absurd (apart words (codes "fstbuild") (codes "fstserve") refl refl is asks)
+  if_build_map asked.Memory P is asks holds = holds
+  if_build_map (asked.Format store) P is asks holds = absurd (apart words (codes "fstbuild") (codes "format") refl refl is (asks.1.0, asks.1.1))
+  if_build_map (asked.BadSettings field) P is asks holds = absurd (build_not_bad words field is asks)
+  if_build_map (asked.Help text) P is asks holds = absurd (not_help words is.1.taken asks)
+  if_build_map asked.Refused P is asks holds = absurd (asks.fails is.1.taken)
+
+  pub if_serve_map : (a : Asked) (P : Type 0) → IsMapServe words → WordsAsk words a → IfServeMap a P → P
+  if_serve_map asked.Serve P is asks holds = absurd (apart words (codes "fstserve") (codes "serve") refl refl is asks)
+  if_serve_map (asked.Load load) P is asks holds = absurd (apart words (codes "fstserve") (codes "load") refl refl is (asks.0.0, asks.0.1))
+  if_serve_map (asked.Settings settings) P is asks holds = absurd (apart words (codes "fstserve") (codes "settings") refl refl is (asks.1.0, asks.1.1))
+  if_serve_map (asked.Grow pages) P is asks holds = absurd (apart words (codes "fstserve") (codes "grow") refl refl is (asks.0, asks.1))
+  if_serve_map asked.Check P is asks holds = absurd (apart words (codes "fstserve") (codes "check") refl refl is asks)
+  if_serve_map asked.Tables P is asks holds = absurd (apart words (codes "fstserve") (codes "tables") refl refl is asks)
+  if_serve_map asked.Dump P is asks holds = absurd (apart words (codes "fstserve") (codes "dump") refl refl is asks)
+  if_serve_map asked.BuildMap P is asks holds = absurd (apart words (codes "fstserve") (codes "fstbuild") refl refl is asks)
+  if_serve_map asked.ServeMap P is asks holds = holds
+  if_serve_map asked.Memory P is asks holds = holds
+  if_serve_map (asked.Format store) P is asks holds = absurd (apart words (codes "fstserve") (codes "format") refl refl is (asks.1.0, asks.1.1))
+  if_serve_map (asked.BadSettings field) P is asks holds = absurd (serve_map_not_bad words field is asks)
+  if_serve_map (asked.Help text) P is asks holds = absurd (not_help words is.1.taken asks)
+  if_serve_map asked.Refused P is asks holds = absurd (asks.fails is.1.taken)
 
   pub if_refused : (a : Asked) (P : Type 0) → AreRefusedWords words → WordsAsk words a → IfRefused a P → P
   if_refused asked.Serve P is asks holds = absurd (is.fails asks.1.taken)
@@ -162,6 +212,8 @@ module _ (words : List Text) where
   if_refused asked.Check P is asks holds = absurd (is.fails asks.1.taken)
   if_refused asked.Tables P is asks holds = absurd (is.fails asks.1.taken)
   if_refused asked.Dump P is asks holds = absurd (is.fails asks.1.taken)
+  if_refused asked.BuildMap P is asks holds = absurd (is.fails asks.1.taken)
+  if_refused asked.ServeMap P is asks holds = absurd (is.fails asks.1.taken)
   if_refused asked.Memory P is asks holds = holds
   if_refused (asked.Format store) P is asks holds = absurd (is.fails asks.1.1.taken)
   if_refused (asked.BadSettings field) P is asks holds = absurd (is.fails (number_taken words field asks))
@@ -176,6 +228,8 @@ module _ (words : List Text) where
   if_help asked.Check P is asks holds = absurd (not_help words asks.1.taken is)
   if_help asked.Tables P is asks holds = absurd (not_help words asks.1.taken is)
   if_help asked.Dump P is asks holds = absurd (not_help words asks.1.taken is)
+  if_help asked.BuildMap P is asks holds = absurd (not_help words asks.1.taken is)
+  if_help asked.ServeMap P is asks holds = absurd (not_help words asks.1.taken is)
   if_help asked.Memory P is asks holds = holds
   if_help (asked.Format store) P is asks holds = absurd (not_help words asks.1.1.taken is)
   if_help (asked.BadSettings field) P is asks holds = absurd (not_help words (number_taken words field asks) is)
@@ -191,6 +245,8 @@ module _ (words : List Text) where
   if_format asked.Check wanted store P Q is good of asks holds starved = absurd (apart words (codes "format") (codes "check") refl refl (is.0, is.1) asks)
   if_format asked.Tables wanted store P Q is good of asks holds starved = absurd (apart words (codes "format") (codes "tables") refl refl (is.0, is.1) asks)
   if_format asked.Dump wanted store P Q is good of asks holds starved = absurd (apart words (codes "format") (codes "dump") refl refl (is.0, is.1) asks)
+  if_format asked.BuildMap wanted store P Q is good of asks holds starved = absurd (apart words (codes "format") (codes "fstbuild") refl refl (is.0, is.1) asks)
+  if_format asked.ServeMap wanted store P Q is good of asks holds starved = absurd (apart words (codes "format") (codes "fstserve") refl refl (is.0, is.1) asks)
   if_format asked.Memory wanted store P Q is good of asks holds starved = starved holds
   if_format (asked.Format made) wanted store P Q is good of asks holds starved =
       let same = same_wanted words asks.0 wanted asks.1 is in
@@ -207,6 +263,8 @@ module _ (words : List Text) where
   if_bad asked.Check field P Q bad asks holds starved = absurd (check_not_bad words field asks bad)
   if_bad asked.Tables field P Q bad asks holds starved = absurd (tables_not_bad words field asks bad)
   if_bad asked.Dump field P Q bad asks holds starved = absurd (dump_not_bad words field asks bad)
+  if_bad asked.BuildMap field P Q bad asks holds starved = absurd (build_not_bad words field asks bad)
+  if_bad asked.ServeMap field P Q bad asks holds starved = absurd (serve_map_not_bad words field asks bad)
   if_bad asked.Memory field P Q bad asks holds starved = starved holds
   if_bad (asked.Format made) field P Q bad asks holds starved = absurd (format_not_bad words asks.0 field asks.1 asks.2 bad)
   if_bad (asked.BadSettings other) field P Q bad asks holds starved = subst P (same_field words other field asks bad) holds
@@ -221,6 +279,8 @@ module _ (words : List Text) where
   if_nothing asked.Check P is asks holds = absurd (asks_nothing words asks.1.taken (λ field bad. check_not_bad words field asks bad) is)
   if_nothing asked.Tables P is asks holds = absurd (asks_nothing words asks.1.taken (λ field bad. tables_not_bad words field asks bad) is)
   if_nothing asked.Dump P is asks holds = absurd (asks_nothing words asks.1.taken (λ field bad. dump_not_bad words field asks bad) is)
+  if_nothing asked.BuildMap P is asks holds = absurd (asks_nothing words asks.1.taken (λ field bad. build_not_bad words field asks bad) is)
+  if_nothing asked.ServeMap P is asks holds = absurd (asks_nothing words asks.1.taken (λ field bad. serve_map_not_bad words field asks bad) is)
   if_nothing asked.Memory P is asks holds = holds
   if_nothing (asked.Format made) P is asks holds = absurd (asks_nothing words asks.1.1.taken (λ field bad. format_not_bad words asks.0 field asks.1 asks.2 bad) is)
   if_nothing (asked.BadSettings field) P is asks holds = holds
@@ -235,6 +295,8 @@ module _ (words : List Text) where
   is_refused asked.Check asks is = absurd is
   is_refused asked.Tables asks is = absurd is
   is_refused asked.Dump asks is = absurd is
+  is_refused asked.BuildMap asks is = absurd is
+  is_refused asked.ServeMap asks is = absurd is
   is_refused asked.Memory asks is = absurd is
   is_refused (asked.Format store) asks is = absurd is
   is_refused (asked.BadSettings field) asks is = absurd is
@@ -249,6 +311,8 @@ module _ (words : List Text) where
   is_load asked.Check asks is = absurd is
   is_load asked.Tables asks is = absurd is
   is_load asked.Dump asks is = absurd is
+  is_load asked.BuildMap asks is = absurd is
+  is_load asked.ServeMap asks is = absurd is
   is_load asked.Memory asks is = absurd is
   is_load (asked.Format store) asks is = absurd is
   is_load (asked.BadSettings field) asks is = absurd is
@@ -263,6 +327,8 @@ module _ (words : List Text) where
   is_reset asked.Check asks is = absurd is
   is_reset asked.Tables asks is = absurd is
   is_reset asked.Dump asks is = absurd is
+  is_reset asked.BuildMap asks is = absurd is
+  is_reset asked.ServeMap asks is = absurd is
   is_reset asked.Memory asks is = absurd is
   is_reset (asked.Format store) asks is = absurd is
   is_reset (asked.BadSettings field) asks is = absurd is
@@ -277,11 +343,45 @@ module _ (words : List Text) where
   is_check asked.Check asks is = asks
   is_check asked.Tables asks is = absurd is
   is_check asked.Dump asks is = absurd is
+  is_check asked.BuildMap asks is = absurd is
+  is_check asked.ServeMap asks is = absurd is
   is_check asked.Memory asks is = absurd is
   is_check (asked.Format store) asks is = absurd is
   is_check (asked.BadSettings field) asks is = absurd is
   is_check (asked.Help text) asks is = absurd is
   is_check asked.Refused asks is = absurd is
+
+  pub is_build_map : (a : Asked) → WordsAsk words a → IsBuildMapAsk a → IsMapBuild words
+  is_build_map asked.Serve asks is = absurd is
+  is_build_map (asked.Load load) asks is = absurd is
+  is_build_map (asked.Settings settings) asks is = absurd is
+  is_build_map (asked.Grow pages) asks is = absurd is
+  is_build_map asked.Check asks is = absurd is
+  is_build_map asked.Tables asks is = absurd is
+  is_build_map asked.Dump asks is = absurd is
+  is_build_map asked.BuildMap asks is = asks
+  is_build_map asked.ServeMap asks is = absurd is
+  is_build_map asked.Memory asks is = absurd is
+  is_build_map (asked.Format store) asks is = absurd is
+  is_build_map (asked.BadSettings field) asks is = absurd is
+  is_build_map (asked.Help text) asks is = absurd is
+  is_build_map asked.Refused asks is = absurd is
+
+  pub is_serve_map : (a : Asked) → WordsAsk words a → IsServeMapAsk a → IsMapServe words
+  is_serve_map asked.Serve asks is = absurd is
+  is_serve_map (asked.Load load) asks is = absurd is
+  is_serve_map (asked.Settings settings) asks is = absurd is
+  is_serve_map (asked.Grow pages) asks is = absurd is
+  is_serve_map asked.Check asks is = absurd is
+  is_serve_map asked.Tables asks is = absurd is
+  is_serve_map asked.Dump asks is = absurd is
+  is_serve_map asked.BuildMap asks is = absurd is
+  is_serve_map asked.ServeMap asks is = asks
+  is_serve_map asked.Memory asks is = absurd is
+  is_serve_map (asked.Format store) asks is = absurd is
+  is_serve_map (asked.BadSettings field) asks is = absurd is
+  is_serve_map (asked.Help text) asks is = absurd is
+  is_serve_map asked.Refused asks is = absurd is
 
   pub has_settings_in_range : (a : Asked) → WordsAsk words a → HasSettingsInRange a
   has_settings_in_range asked.Serve asks = tt
@@ -291,6 +391,8 @@ module _ (words : List Text) where
   has_settings_in_range asked.Check asks = tt
   has_settings_in_range asked.Tables asks = tt
   has_settings_in_range asked.Dump asks = tt
+  has_settings_in_range asked.BuildMap asks = tt
+  has_settings_in_range asked.ServeMap asks = tt
   has_settings_in_range asked.Memory asks = tt
   has_settings_in_range (asked.Format store) asks = tt
   has_settings_in_range (asked.BadSettings field) asks = tt
@@ -397,3 +499,21 @@ memory_check a P is p = subst (λ (b : Asked). IfCheck b P) (sym is) p
 
 pub check_is_asked : (a : Asked) → a ≡ asked.Check → IsCheckAsk a
 check_is_asked a is = subst IsCheckAsk (sym is) tt
+
+pub at_build_map : (a : Asked) (P : Type 0) → a ≡ asked.BuildMap → P → IfBuildMap a P
+at_build_map a P is p = subst (λ (b : Asked). IfBuildMap b P) (sym is) p
+
+pub at_serve_map : (a : Asked) (P : Type 0) → a ≡ asked.ServeMap → P → IfServeMap a P
+at_serve_map a P is p = subst (λ (b : Asked). IfServeMap b P) (sym is) p
+
+pub memory_build_map : (a : Asked) (P : Type 0) → a ≡ asked.Memory → P → IfBuildMap a P
+memory_build_map a P is p = subst (λ (b : Asked). IfBuildMap b P) (sym is) p
+
+pub memory_serve_map : (a : Asked) (P : Type 0) → a ≡ asked.Memory → P → IfServeMap a P
+memory_serve_map a P is p = subst (λ (b : Asked). IfServeMap b P) (sym is) p
+
+pub build_map_is_asked : (a : Asked) → a ≡ asked.BuildMap → IsBuildMapAsk a
+build_map_is_asked a is = subst IsBuildMapAsk (sym is) tt
+
+pub serve_map_is_asked : (a : Asked) → a ≡ asked.ServeMap → IsServeMapAsk a
+serve_map_is_asked a is = subst IsServeMapAsk (sym is) tt

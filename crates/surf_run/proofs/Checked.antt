@@ -34,6 +34,7 @@ use Rattle.surf_run.specs.Loads.{IsLoading}
 use Rattle.surf_run.specs.Open.{no_store_text}
 use Rattle.surf_run.specs.Resetting.{IsResetting}
 use Rattle.table_file.specs.Faults.{filter_fault_of}
+use Rattle.table_model.specs.Damage.{IsOfBytes}
 
 -- ---- nothing changes
 
@@ -109,7 +110,13 @@ checking_never_ten status is other = elim is [
   | inr more ↦ elim more [ inl s ↦ cc | inr more ↦ elim more [ inl s ↦ cc | inr more ↦ elim more [ inl s ↦ cc | inr more ↦ elim more [ inl s ↦ cc | inr s ↦ cc ] ] ] ]
 ]
 
-pub check_as_statuses : (status : ℕ) → IsChecking status → IsServing status ⊎ (status ≡ 2) ⊎ (status ≡ 5) ⊎ (status ≡ 7) ⊎ (status ≡ 8) ⊎ (status ≡ 10) ⊎ (status ≡ 12)
+pub checking_never_eleven : (status : ℕ) → IsChecking status → status ≡ 11 → ⊥
+checking_never_eleven status is other = elim is [
+  | inl s ↦ cc
+  | inr more ↦ elim more [ inl s ↦ cc | inr more ↦ elim more [ inl s ↦ cc | inr more ↦ elim more [ inl s ↦ cc | inr more ↦ elim more [ inl s ↦ cc | inr s ↦ cc ] ] ] ]
+]
+
+pub check_as_statuses : (status : ℕ) → IsChecking status → IsServing status ⊎ (status ≡ 2) ⊎ (status ≡ 5) ⊎ (status ≡ 7) ⊎ (status ≡ 8) ⊎ (status ≡ 10) ⊎ (status ≡ 12) ⊎ (status ≡ 11)
 check_as_statuses status is = elim (sorted status is) [
   | inl cut ↦ elim cut [
     | inl four ↦ inl (inr (inr (inl four)))
@@ -117,11 +124,11 @@ check_as_statuses status is = elim (sorted status is) [
   ]
   | inr more ↦ elim more [
     | inl zero ↦ inl (inl zero)
-    | inr more ↦ elim more [ inl eight ↦ inr (inr (inr (inr (inl eight)))) | inr twelve ↦ inr (inr (inr (inr (inr (inr twelve))))) ]
+    | inr more ↦ elim more [ inl eight ↦ inr (inr (inr (inr (inl eight)))) | inr twelve ↦ inr (inr (inr (inr (inr (inr (inl twelve)))))) ]
   ]
 ]
 
--- no other run ends as a check that found something
+-- no other run ends as a check that found something, or as a build of lines that are no map
 
 pub serving_never_twelve : (status : ℕ) → IsServing status ⊎ (status ≡ 5) ⊎ (status ≡ 7) ⊎ (status ≡ 8) → status ≡ 12 → ⊥
 serving_never_twelve status is other = elim is [
@@ -137,6 +144,24 @@ loading_never_twelve status is other = elim is [
 
 pub reset_never_twelve : (status : ℕ) → IsResetting status → status ≡ 12 → ⊥
 reset_never_twelve status is other = elim is [
+  | inl s ↦ cc
+  | inr more ↦ elim more [ inl s ↦ cc | inr more ↦ elim more [ inl s ↦ cc | inr more ↦ elim more [ inl s ↦ cc | inr more ↦ elim more [ inl s ↦ cc | inr more ↦ elim more [ inl s ↦ cc | inr s ↦ cc ] ] ] ] ]
+]
+
+pub serving_never_eleven : (status : ℕ) → IsServing status ⊎ (status ≡ 5) ⊎ (status ≡ 7) ⊎ (status ≡ 8) → status ≡ 11 → ⊥
+serving_never_eleven status is other = elim is [
+  | inl s ↦ elim s [ inl s ↦ cc | inr more ↦ elim more [ inl s ↦ cc | inr more ↦ elim more [ inl s ↦ cc | inr more ↦ elim more [ inl s ↦ cc | inr s ↦ cc ] ] ] ]
+  | inr more ↦ elim more [ inl s ↦ cc | inr more ↦ elim more [ inl s ↦ cc | inr s ↦ cc ] ]
+]
+
+pub loading_never_eleven : (status : ℕ) → IsLoading status ⊎ (status ≡ 8) → status ≡ 11 → ⊥
+loading_never_eleven status is other = elim is [
+  | inl s ↦ elim s [ inl s ↦ cc | inr more ↦ elim more [ inl s ↦ cc | inr more ↦ elim more [ inl s ↦ cc | inr more ↦ elim more [ inl s ↦ cc | inr s ↦ cc ] ] ] ]
+  | inr s ↦ cc
+]
+
+pub reset_never_eleven : (status : ℕ) → IsResetting status → status ≡ 11 → ⊥
+reset_never_eleven status is other = elim is [
   | inl s ↦ cc
   | inr more ↦ elim more [ inl s ↦ cc | inr more ↦ elim more [ inl s ↦ cc | inr more ↦ elim more [ inl s ↦ cc | inr more ↦ elim more [ inl s ↦ cc | inr more ↦ elim more [ inl s ↦ cc | inr s ↦ cc ] ] ] ] ]
 ]
@@ -157,18 +182,31 @@ module _ (spelling : Spelling) (first_fault : Bytes → Fault) (one : SpellsOne 
   nothing_there : (image : Image) → HasFindings spelling first_fault image → IsNoStore image → ⊥
   nothing_there image found none = no_store_has_no_findings spelling (filter_fault_of first_fault) image found.0 none found.1
 
+  -- an image with a state, one with findings, and one without a store are among those that the premise takes
+
+  holds_state : (image : Image) → IsOfBytes image → HasState spelling image → HoldsEntries spelling first_fault image
+  holds_state image bytes state = record { bytes = bytes; entries = λ none. ((no_finding_is_state spelling (filter_fault_of first_fault) image bytes).1 state).1 }
+
+  holds_wrong : (image : Image) → IsOfBytes image → HasFindings spelling first_fault image → HoldsEntries spelling first_fault image
+  holds_wrong image bytes found = record { bytes = bytes; entries = λ none. absurd (found.2 (one_list_of_findings spelling (filter_fault_of first_fault) image found.0 [] one found.1 none)) }
+
+  holds_no_store : (image : Image) → IsOfBytes image → IsNoStore image → HoldsEntries spelling first_fault image
+  holds_no_store image bytes nothing = record { bytes = bytes; entries = λ none. absurd (no_store_has_no_findings spelling (filter_fault_of first_fault) image [] nothing none) }
+
   -- what a check tells, by what its status says
   pub check_ends : (tells output : Bool) (status : ℕ) (old new : World)
       → (IsTrue tells → IsTrue output → HoldsEntries spelling first_fault old.seen.held → LastLine (IsCheckText spelling first_fault old.seen.held) status old new)
       → (IsTrue tells → HoldsEntries spelling first_fault old.seen.held → status ≡ 0 → HasState spelling old.seen.held)
+      → (IsTrue tells → status ≡ 0 → AreFound spelling first_fault old.seen.held [])
       → (IsTrue tells → HoldsEntries spelling first_fault old.seen.held → status ≡ 12 → HasFindings spelling first_fault old.seen.held)
       → (IsTrue tells → HoldsEntries spelling first_fault old.seen.held → status ≡ 8 → IsNoStore old.seen.held)
       → (status ≡ 4 → Rose old.seen.read_faults new.seen.read_faults) → (status ≡ 6 → SayFailed old new) → IsChecking status → ChangesNothing old new
       → CheckEnds spelling first_fault tells output status old new
-  check_ends tells output status old new checked clean wrong no_store reads saying is changes = record {
+  check_ends tells output status old new checked clean nothing wrong no_store reads saying is changes = record {
     checked = checked;
     clean = clean;
-    told_clean = λ told bytes state. elim (sorted status is) [
+    none_found = nothing;
+    told_clean = λ told given state. let bytes = holds_state old.seen.held given state in elim (sorted status is) [
       | inl cut ↦ inr cut
       | inr more ↦ elim more [
         | inl zero ↦ inl zero
@@ -179,7 +217,7 @@ module _ (spelling : Spelling) (first_fault : Bytes → Fault) (one : SpellsOne 
       ]
     ];
     wrong = wrong;
-    told_wrong = λ told bytes found. elim (sorted status is) [
+    told_wrong = λ told given found. let bytes = holds_wrong old.seen.held given found in elim (sorted status is) [
       | inl cut ↦ inr cut
       | inr more ↦ elim more [
         | inl zero ↦ absurd (not_wrong old.seen.held bytes (clean told bytes zero) found)
@@ -187,7 +225,7 @@ module _ (spelling : Spelling) (first_fault : Bytes → Fault) (one : SpellsOne 
       ]
     ];
     no_store = no_store;
-    told_no_store = λ told bytes none. elim (sorted status is) [
+    told_no_store = λ told given none. let bytes = holds_no_store old.seen.held given none in elim (sorted status is) [
       | inl cut ↦ inr cut
       | inr more ↦ elim more [
         | inl zero ↦ absurd (not_no_store old.seen.held bytes (clean told bytes zero) none)
@@ -275,13 +313,14 @@ module _ (spelling : Spelling) (first_fault : Bytes → Fault) (one : SpellsOne 
 
   -- a check that ends with this line
   ends_by : (status meant : ℕ) (text : Bytes) → SaysLast output meant text status old new → IsChecking meant → (meant ≡ 6 → ⊥) → (IsTrue tells → IsTrue output → HoldsEntries spelling first_fault first.seen.held → Text meant (findings_text given ++ text))
-      → (meant ≡ 0 → Observed (HasState spelling first.seen.held)) → (meant ≡ 12 → Observed (HasFindings spelling first_fault first.seen.held)) → (meant ≡ 8 → Observed (IsNoStore first.seen.held))
+      → (meant ≡ 0 → Observed (HasState spelling first.seen.held)) → (meant ≡ 0 → IsTrue tells → AreFound spelling first_fault first.seen.held []) → (meant ≡ 12 → Observed (HasFindings spelling first_fault first.seen.held)) → (meant ≡ 8 → Observed (IsNoStore first.seen.held))
       → (meant ≡ 4 → Rose first.seen.read_faults new.seen.read_faults)
       → CheckEnds spelling first_fault tells output status first new
-  ends_by status meant text says checking not_six is clean wrong none reads =
+  ends_by status meant text says checking not_six is clean nothing wrong none reads =
       check_ends spelling first_fault one tells output status first new
       (λ told heard bytes. last_said status meant text says heard (is told heard bytes))
       (λ told bytes zero. elim says.ends [ inl same ↦ clean (sym same ∙ zero) told bytes | inr six ↦ absurd (let e : 6 ≡ 0 = sym six.0 ∙ zero in cc) ])
+      (λ told zero. elim says.ends [ inl same ↦ nothing (sym same ∙ zero) told | inr six ↦ absurd (let e : 6 ≡ 0 = sym six.0 ∙ zero in cc) ])
       (λ told bytes twelve. elim says.ends [ inl same ↦ wrong (sym same ∙ twelve) told bytes | inr six ↦ absurd (let e : 6 ≡ 12 = sym six.0 ∙ twelve in cc) ])
       (λ told bytes eight. elim says.ends [ inl same ↦ none (sym same ∙ eight) told bytes | inr six ↦ absurd (let e : 6 ≡ 8 = sym six.0 ∙ eight in cc) ])
       (λ four. elim says.ends [ inl same ↦ reads (sym same ∙ four) | inr six ↦ absurd (let e : 6 ≡ 4 = sym six.0 ∙ four in cc) ])
@@ -307,7 +346,7 @@ module _ (spelling : Spelling) (first_fault : Bytes → Fault) (one : SpellsOne 
         inr (inl (refl, findings, more.1, some_there given f more.0, refl)),
         inr (refl, subst (λ (t : Bytes). SaysPrefix t first.beside.said new.beside.said) (sym text) (further (finding_text f ++ tail) heard (longer (finding_text f) tail old new (prefix heard)))),
       ))
-      (λ told bytes e. absurd cc) (λ told bytes e. absurd cc) (λ told bytes e. absurd cc) (λ e. absurd cc) (λ e. say_since failed) (inr (inr (inl refl)))
+      (λ told bytes e. absurd cc) (λ told e. absurd cc) (λ told bytes e. absurd cc) (λ told bytes e. absurd cc) (λ e. absurd cc) (λ e. say_since failed) (inr (inr (inl refl)))
       (changes_on first old new changes (changes_say old new moves))
 
   -- all were given
@@ -315,7 +354,7 @@ module _ (spelling : Spelling) (first_fault : Bytes → Fault) (one : SpellsOne 
       → CheckEnds spelling first_fault tells output status first new
   found_ends status says some all =
       ends_by status 12 (found_text (counted given)) says (inr (inr (inr (inr (inr refl))))) (λ e. cc) (λ told heard bytes. inr (inl (refl, given, all told, some, refl)))
-      (λ e. absurd cc) (λ e told bytes. (given, all told, some)) (λ e. absurd cc) (λ e. absurd cc)
+      (λ e. absurd cc) (λ e. absurd cc) (λ e told bytes. (given, all told, some)) (λ e. absurd cc) (λ e. absurd cc)
 
   -- it was cut off, or there is no store
   pub cut_ends : (why : CheckError) (status : ℕ) → SaysLast output (cut_off_status why) (cut_off_text why) status old new
@@ -323,12 +362,12 @@ module _ (spelling : Spelling) (first_fault : Bytes → Fault) (one : SpellsOne 
       → (why ≡ error.NotAStore → Observed (IsNoStore first.seen.held)) → HasCause first old why
       → CheckEnds spelling first_fault tells output status first new
   cut_ends error.Memory status says is none cause =
-      ends_by status 7 (text_of replies.Memory) says (inr (inr (inr (inl refl)))) (λ e. cc) is (λ e. absurd cc) (λ e. absurd cc) (λ e. absurd cc) (λ e. absurd cc)
+      ends_by status 7 (text_of replies.Memory) says (inr (inr (inr (inl refl)))) (λ e. cc) is (λ e. absurd cc) (λ e. absurd cc) (λ e. absurd cc) (λ e. absurd cc) (λ e. absurd cc)
   cut_ends (error.Device fault) status says is none cause =
-      ends_by status 4 (text_of replies.Device) says (inr (inl refl)) (λ e. cc) is (λ e. absurd cc) (λ e. absurd cc) (λ e. absurd cc)
+      ends_by status 4 (text_of replies.Device) says (inr (inl refl)) (λ e. cc) is (λ e. absurd cc) (λ e. absurd cc) (λ e. absurd cc) (λ e. absurd cc)
       (λ e. rose_then first.seen.read_faults old.seen.read_faults new.seen.read_faults cause (no_fall_say old new says.moves).read)
   cut_ends error.NotAStore status says is none cause =
-      ends_by status 8 no_store_text says (inr (inr (inr (inr (inl refl))))) (λ e. cc) is (λ e. absurd cc) (λ e. absurd cc) (λ e. none refl) (λ e. absurd cc)
+      ends_by status 8 no_store_text says (inr (inr (inr (inr (inl refl))))) (λ e. cc) is (λ e. absurd cc) (λ e. absurd cc) (λ e. absurd cc) (λ e. none refl) (λ e. absurd cc)
 
   -- nothing is wrong, and this is what the store has
   pub clean_ends : (has : Summary) (status : ℕ) → SaysLast output 0 (clean_text has.tables has.entries has.live has.log) status old new → (given ≡ []) → (IsTrue tells → AreFound spelling first_fault first.seen.held [])
@@ -342,7 +381,7 @@ module _ (spelling : Spelling) (first_fault : Bytes → Fault) (one : SpellsOne 
       let s = state told bytes in
       let is = summary s.0 told s.1 in
       inl (refl, s.0, s.1, ap (λ (fs : List Finding). findings_text fs ++ text) nothing ∙ (λ i. clean_text (is.tables i) (is.entries i) (is.live i) (is.log i))))
-      (λ e told bytes. state told bytes) (λ e. absurd cc) (λ e. absurd cc) (λ e. absurd cc)
+      (λ e told bytes. state told bytes) (λ e told. all told) (λ e. absurd cc) (λ e. absurd cc) (λ e. absurd cc)
 
 -- ---- on the way
 
@@ -474,7 +513,7 @@ module _ (spelling : Spelling) (first_fault : Bytes → Fault) (one : SpellsOne 
     pub again_damaged : (status : ℕ) → (status ≡ 12) ⊎ ((status ≡ 6) × SayFailed mid new) → SayMoves mid new → CheckEnds spelling first_fault tells output status first new
     again_damaged status ends moves =
         check_ends spelling first_fault one tells output status first new
-        (λ told heard bytes. absurd (never told bytes)) (λ told bytes e. absurd (never told bytes)) (λ told bytes e. absurd (never told bytes)) (λ told bytes e. absurd (never told bytes))
+        (λ told heard bytes. absurd (never told bytes)) (λ told bytes e. absurd (never told bytes)) (λ told zero. all told) (λ told bytes e. absurd (never told bytes)) (λ told bytes e. absurd (never told bytes))
         (λ four. absurd (elim ends [ inl twelve ↦ let e : 12 ≡ 4 = sym twelve ∙ four in cc | inr six ↦ let e : 6 ≡ 4 = sym six.0 ∙ four in cc ]))
         (λ six. elim ends [
           | inl twelve ↦ absurd (let e : 12 ≡ 6 = sym twelve ∙ six in cc)

@@ -26,8 +26,10 @@ pub mod Progress
 pub mod PutsRead
 pub mod Ranges
 pub mod Readings
+pub mod MapRuns
 pub mod NewNumbersSet
 pub mod Scans
 pub mod Slices
 pub mod Tends
 pub mod Values
+pub mod WholeDumps

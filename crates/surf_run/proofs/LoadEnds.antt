@@ -478,7 +478,7 @@ module _ (Told : Type 0) (status : ℕ) (a b c : World) (falls : NoFall a b) (si
   pub damage_since : RunMeetsDamage (Unit {0}) b c → RunMeetsDamage (Unit {0}) a c
   damage_since met = elim met [ inl shown ↦ inl shown | inr unsaid ↦ inr (tt, unsaid_later unsaid.1) ]
 
-pub as_statuses : (status : ℕ) → IsLoading status ⊎ (status ≡ 8) → IsServing status ⊎ (status ≡ 2) ⊎ (status ≡ 5) ⊎ (status ≡ 7) ⊎ (status ≡ 8) ⊎ (status ≡ 10) ⊎ (status ≡ 12)
+pub as_statuses : (status : ℕ) → IsLoading status ⊎ (status ≡ 8) → IsServing status ⊎ (status ≡ 2) ⊎ (status ≡ 5) ⊎ (status ≡ 7) ⊎ (status ≡ 8) ⊎ (status ≡ 10) ⊎ (status ≡ 12) ⊎ (status ≡ 11)
 as_statuses status is = elim is [
   | inl loading ↦ elim loading [
     | inl zero ↦ inl (inl zero)

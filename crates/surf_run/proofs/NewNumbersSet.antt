@@ -368,7 +368,7 @@ no_store_told spelling rule image status old new none eight = elim none.line.3 [
 ]
 
 -- the statuses of a reset are statuses of a run
-pub reset_as_statuses : (status : ℕ) → IsResetting status → IsServing status ⊎ (status ≡ 2) ⊎ (status ≡ 5) ⊎ (status ≡ 7) ⊎ (status ≡ 8) ⊎ (status ≡ 10) ⊎ (status ≡ 12)
+pub reset_as_statuses : (status : ℕ) → IsResetting status → IsServing status ⊎ (status ≡ 2) ⊎ (status ≡ 5) ⊎ (status ≡ 7) ⊎ (status ≡ 8) ⊎ (status ≡ 10) ⊎ (status ≡ 12) ⊎ (status ≡ 11)
 reset_as_statuses status is = elim is [
   | inl zero ↦ inl (inl zero)
   | inr more ↦ elim more [

@@ -1,5 +1,5 @@
 -- Lines that put pairs are read as these puts, and make their map.
-use Rattle.std.proofs.Common.{◌≡◌, ◌∙◌, ◌≤◌, ◌+◌, ◌*◌, ◌/◌, ◌%◌, ◌++◌, [], ◌∷◌, ℕ, List, Bool, true, false, arith, ap, ap₂, append_assoc, cond, get_or, inl, length, length-append, map, refl, subst, sym, suc, zero}
+use Rattle.std.proofs.Common.{◌≡◌, ◌∙◌, ◌≤◌, ◌+◌, ◌*◌, ◌/◌, ◌%◌, ◌++◌, [], ◌∷◌, ℕ, List, Bool, true, false, arith, ap, ap₂, append_assoc, cond, drop, get_or, inl, inr, length, length-append, map, refl, subst, sym, suc, zero}
 use Rattle.std.specs.Prelude.{◌==◌, All, Ok, Some, bytes_eq, codes, flat_map}
 use Rattle.std.specs.List.{AllByRecursion, slice_split}
 use Rattle.std.specs.Ordering.{ordering_reverse}
@@ -14,13 +14,13 @@ use Rattle.std.proofs.lemmas.Slice.Eq.{bytes_eq-Decides}
 use Rattle.hex.specs.Hex.{IsBytes, decode_of, encode_lower, encode_with, lower_digits}
 use Rattle.hex.proofs.HexLemmas.{decode_of-encode_lower, length-encode_with}
 use Rattle.line_model.specs.Lines.{bytes_in, counted, lines_of, some_bytes}
-use Rattle.line_model.specs.Replies.{Done, text_of, word_of}
+use Rattle.line_model.specs.Replies.{About, At, BadLine, Bye, Counted, Damaged, Device, Done, End, Explained, Full, LastEpoch, LongKey, LongValue, ManyTables, Memory, Missing, Pairs, Reply, Value, text_of, word_of}
 use Rattle.line_model.specs.Requests.{Bad, Put, Request, asked_by, request_of, with_two}
 use Rattle.map_model.specs.SortedMap.{Bytes, Map, Rises, byte_order, in_place, put}
 use Rattle.state_model.specs.Laws.{map_behind}
 use Rattle.store_commands.specs.Puts.{puts_text}
 use Rattle.surf_run.specs.Copies.{DumpsAreCopies, IsPair}
-use Rattle.surf_run.specs.OneMap.{IsMapReply, MapDialogue}
+use Rattle.surf_run.specs.OneMap.{IsMapReply, IsRefusal, MapDialogue}
 
 -- ---- no word has a newline, a space or, but for that of no bytes, a dash
 
@@ -170,8 +170,61 @@ copied before (pair ∷ m) rises each =
           (subst (λ (b : Map). MapDialogue b (map (λ (pair : Bytes × Bytes). line_of pair) m) (flat_map (λ (pair : Bytes × Bytes). text_of Done) m) ((before ++ pair ∷ []) ++ m)) now later),
     )
 
+-- ---- no other map comes of it
+
+other_108 : ◌≡◌ {A = ℕ} 111 108 → ⊥
+other_108 e = omega (arith, e)
+
+other_102 : ◌≡◌ {A = ℕ} 111 102 → ⊥
+other_102 e = omega (arith, e)
+
+other_109 : ◌≡◌ {A = ℕ} 111 109 → ⊥
+other_109 e = omega (arith, e)
+
+-- what refuses a line begins with another byte than what is done
+not_refused : (reply : Reply) → IsRefusal reply → (a b : Bytes) → text_of Done ++ a ≡ text_of reply ++ b → ⊥
+not_refused Done is a b e = elim is [ inl never ↦ cc | inr never ↦ cc ]
+not_refused (Value value) is a b e = elim is [ inl never ↦ cc | inr never ↦ cc ]
+not_refused Missing is a b e = elim is [ inl never ↦ cc | inr never ↦ cc ]
+not_refused (At key value) is a b e = elim is [ inl never ↦ cc | inr never ↦ cc ]
+not_refused (Pairs found last) is a b e = elim is [ inl never ↦ cc | inr never ↦ cc ]
+not_refused (End count) is a b e = elim is [ inl never ↦ cc | inr never ↦ cc ]
+not_refused (Counted count) is a b e = elim is [ inl never ↦ cc | inr never ↦ cc ]
+not_refused (About count) is a b e = elim is [ inl never ↦ cc | inr never ↦ cc ]
+not_refused (Explained tables admitted blocks) is a b e = elim is [ inl never ↦ cc | inr never ↦ cc ]
+not_refused Bye is a b e = elim is [ inl never ↦ cc | inr never ↦ cc ]
+not_refused (BadLine code) is a b e = elim is [ inl never ↦ cc | inr never ↦ cc ]
+not_refused (LongKey size) is a b e = other_108 (ap (λ (t : Bytes). get_or t 0 0) e)
+not_refused (LongValue size) is a b e = other_108 (ap (λ (t : Bytes). get_or t 0 0) e)
+not_refused ManyTables is a b e = other_108 (ap (λ (t : Bytes). get_or t 0 0) e)
+not_refused LastEpoch is a b e = other_108 (ap (λ (t : Bytes). get_or t 0 0) e)
+not_refused (Full need gap) is a b e = other_102 (ap (λ (t : Bytes). get_or t 0 0) e)
+not_refused Memory is a b e = other_109 (ap (λ (t : Bytes). get_or t 0 0) e)
+not_refused Device is a b e = elim is [ inl never ↦ cc | inr never ↦ cc ]
+not_refused (Damaged damage) is a b e = elim is [ inl never ↦ cc | inr never ↦ cc ]
+
+copied_only : (before m : Map) → Rises (before ++ m) → AllByRecursion IsPair m → (last : Map)
+    → MapDialogue before (map (λ (pair : Bytes × Bytes). line_of pair) m) (flat_map (λ (pair : Bytes × Bytes). text_of Done) m) last → last ≡ before ++ m
+copied_only before [] rises each last dialogue = dialogue.1 ∙ sym (append-nil before)
+copied_only before (pair ∷ m) rises each last dialogue =
+    let reply = dialogue.0 in
+    let rest = dialogue.1 in
+    let asks = line_asks pair each.0 in
+    let done : reply ≡ Done = elim dialogue.3 [
+      | inl is ↦ subst (λ (r : Request). IsMapReply before r reply) asks is
+      | inr refused ↦ absurd (not_refused reply refused (flat_map (λ (pair : Bytes × Bytes). text_of Done) m) rest dialogue.2)
+    ] in
+    let rest_is : flat_map (λ (pair : Bytes × Bytes). text_of Done) m ≡ rest = ap (drop 3) (dialogue.2 ∙ ap (λ (r : Reply). text_of r ++ rest) done) in
+    let now : map_behind (request_of (line_of pair)) reply before ≡ before ++ pair ∷ [] = ap₂ (λ (q : Request) (r : Reply). map_behind q r before) asks done ∙ put_last before pair m rises in
+    let whole : (before ++ pair ∷ []) ++ m ≡ before ++ pair ∷ m = append_assoc before (pair ∷ []) m in
+    copied_only (before ++ pair ∷ []) m (subst Rises (sym whole) rises) each.1 last
+    (subst (λ (t : Bytes). MapDialogue (before ++ pair ∷ []) (map (λ (pair : Bytes × Bytes). line_of pair) m) t last) (sym rest_is)
+    (subst (λ (b : Map). MapDialogue b (map (λ (pair : Bytes × Bytes). line_of pair) m) rest last) now dialogue.4))
+    ∙ whole
+
 pub dumps_are_copies : DumpsAreCopies
 dumps_are_copies m rises each = record {
   requests = puts_are_read m each;
   replies = subst (λ (lines : List Bytes). MapDialogue [] lines (flat_map (λ (pair : Bytes × Bytes). text_of Done) m) m) (sym (lines_put m)) (copied [] m rises each);
+  only = λ last dialogue. copied_only [] m rises each last (subst (λ (lines : List Bytes). MapDialogue [] lines (flat_map (λ (pair : Bytes × Bytes). text_of Done) m) last) (lines_put m) dialogue);
 }

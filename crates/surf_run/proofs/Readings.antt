@@ -60,7 +60,7 @@ numbers_text s n is = rw (is.pages, is.free, is.gap, is.epoch, is.log_bytes, is.
 
 -- ---- statuses
 
-pub reading_as_statuses : (status : ℕ) → IsReading status → IsServing status ⊎ (status ≡ 2) ⊎ (status ≡ 5) ⊎ (status ≡ 7) ⊎ (status ≡ 8) ⊎ (status ≡ 10) ⊎ (status ≡ 12)
+pub reading_as_statuses : (status : ℕ) → IsReading status → IsServing status ⊎ (status ≡ 2) ⊎ (status ≡ 5) ⊎ (status ≡ 7) ⊎ (status ≡ 8) ⊎ (status ≡ 10) ⊎ (status ≡ 12) ⊎ (status ≡ 11)
 reading_as_statuses status is = elim is [
   | inl zero ↦ inl (inl zero)
   | inr more ↦ elim more [
@@ -194,5 +194,6 @@ memory_dump_end spelling first tells output status a b now moves whole prefix en
       lines = λ s bytes heard is. last_line (IsDumpText s) a a b refl status 7 (text_of Memory) (inr (refl, refl)) (whole heard) (prefix heard) ends;
       complete = told.complete;
       only_at_damage = λ bytes heard five. inl (told.only_at_damage bytes heard five);
+      whole = λ bytes heard done. absurd (elim ends [ inl seven ↦ let e : 7 ≡ 0 = sym seven ∙ done in cc | inr six ↦ let e : 6 ≡ 0 = sym six.0 ∙ done in cc ]);
       reading = told.reading;
     }

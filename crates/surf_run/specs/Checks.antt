@@ -121,17 +121,19 @@ pub record HoldsEntries (spelling : Spelling) (first_fault : Bytes → Fault) (i
 -- ---- the whole
 
 -- How a check ends. Over an observable device that holds bytes and no deleted range its lines are what `IsCheckText` says; 0 comes exactly where an image
--- represents a state, 12 exactly where something is wrong and 8 exactly where no store is there, unless the check is cut off. The
+-- represents a state, 12 exactly where something is wrong and 8 exactly where no store is there, unless the check is cut off. Whatever
+-- ranges there are, 0 comes only where nothing is wrong, and a state, something that is wrong and no store are told as such. The
 -- device failed only where the count of failed reads rose, and the output where its own did. Where no call fails a check ends so or
 -- for lack of memory.
 pub record CheckEnds (spelling : Spelling) (first_fault : Bytes → Fault) (tells tells_output : Bool) (status : ℕ) (old new : World) : Type 0 where
   pub checked : IsTrue tells → IsTrue tells_output → HoldsEntries spelling first_fault old.seen.held → LastLine (IsCheckText spelling first_fault old.seen.held) status old new
   pub clean : IsTrue tells → HoldsEntries spelling first_fault old.seen.held → status ≡ done_status → HasState spelling old.seen.held
-  pub told_clean : IsTrue tells → HoldsEntries spelling first_fault old.seen.held → HasState spelling old.seen.held → (status ≡ done_status) ⊎ IsCutOff status
+  pub none_found : IsTrue tells → status ≡ done_status → AreFound spelling first_fault old.seen.held []
+  pub told_clean : IsTrue tells → IsOfBytes old.seen.held → HasState spelling old.seen.held → (status ≡ done_status) ⊎ IsCutOff status
   pub wrong : IsTrue tells → HoldsEntries spelling first_fault old.seen.held → status ≡ findings_status → HasFindings spelling first_fault old.seen.held
-  pub told_wrong : IsTrue tells → HoldsEntries spelling first_fault old.seen.held → HasFindings spelling first_fault old.seen.held → (status ≡ findings_status) ⊎ IsCutOff status
+  pub told_wrong : IsTrue tells → IsOfBytes old.seen.held → HasFindings spelling first_fault old.seen.held → (status ≡ findings_status) ⊎ IsCutOff status
   pub no_store : IsTrue tells → HoldsEntries spelling first_fault old.seen.held → status ≡ store_status → IsNoStore old.seen.held
-  pub told_no_store : IsTrue tells → HoldsEntries spelling first_fault old.seen.held → IsNoStore old.seen.held → (status ≡ store_status) ⊎ IsCutOff status
+  pub told_no_store : IsTrue tells → IsOfBytes old.seen.held → IsNoStore old.seen.held → (status ≡ store_status) ⊎ IsCutOff status
   pub reads : status ≡ device_status → Rose old.seen.read_faults new.seen.read_faults
   pub saying : status ≡ output_status → SayFailed old new
   pub complete : (SomeFailed old new → ⊥) → IsCheckEnd status

@@ -13,10 +13,12 @@ use Rattle.surf_run.specs.OneMap.{MapDialogue}
 abbrev pub IsPair : Bytes × Bytes → Type 0
 IsPair pair = IsEntry (put_entry pair.0 pair.1)
 
--- Each line of the dump of a map puts its pair; and where each is answered `ok` over the empty map, the map is there.
+-- Each line of the dump of a map puts its pair. Over the empty map they may each be answered `ok`, and where they are they leave the map
+-- and no other.
 pub record IsCopied (m : Map) : Type 0 where
   pub requests : map (λ line. request_of line) (lines_of (puts_text m)) ≡ map (λ (pair : Bytes × Bytes). Put pair.0 pair.1) m
   pub replies : MapDialogue [] (lines_of (puts_text m)) (flat_map (λ (pair : Bytes × Bytes). text_of Done) m) m
+  pub only : (last : Map) → MapDialogue [] (lines_of (puts_text m)) (flat_map (λ (pair : Bytes × Bytes). text_of Done) m) last → last ≡ m
 
 abbrev pub DumpsAreCopies : Type 0
 DumpsAreCopies = (m : Map) → Rises m → AllByRecursion IsPair m → IsCopied m

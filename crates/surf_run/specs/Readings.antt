@@ -1,7 +1,7 @@
 -- What a run says that opens a store only to read it, and that it changes nothing.
-use Rattle.std.specs.Prelude.{◌≡◌, ◌⊎◌, ◌-◌, ◌++◌, ℕ, Bool, IsTrue, flat_map, length}
+use Rattle.std.specs.Prelude.{◌≡◌, ◌⊎◌, ◌≤◌, ◌+◌, ◌-◌, ◌^◌, ◌++◌, ℕ, Bool, List, IsTrue, flat_map, length}
 use Rattle.byte_fields.specs.Faults.{Fault}
-use Rattle.disk_trait.specs.World.{World}
+use Rattle.disk_trait.specs.World.{Image, World}
 use Rattle.extent_model.specs.Gaps.{largest_gap}
 use Rattle.filter_api.specs.Spellings.{Spelling}
 use Rattle.image_model.specs.Stands.{IsStateOf}
@@ -9,6 +9,8 @@ use Rattle.key_base.specs.Limits.{first_table_page}
 use Rattle.manifest_model.specs.Slots.{IsNoStore}
 use Rattle.line_model.specs.Replies.{Device, Memory, text_of}
 use Rattle.map_model.specs.SortedMap.{Bytes, Map}
+use Rattle.merge_rows.specs.Merges.{TableWalk}
+use Rattle.merge_rows.specs.Reads.{PassSound}
 use Rattle.state_model.specs.Logs.{filled_by}
 use Rattle.state_model.specs.Merges.{greatest_key, least_key}
 use Rattle.state_model.specs.State.{State}
@@ -16,6 +18,9 @@ use Rattle.state_model.specs.Taken.{taken}
 use Rattle.state_model.specs.View.{state_map}
 use Rattle.store_commands.specs.Puts.{puts_text}
 use Rattle.store_core.specs.Numbering.{pages_left}
+use Rattle.store_core.specs.Opening.{IsOpenedAs}
+use Rattle.store_core.specs.Scans.{AreAllSound, AreDoneUpTo, ScanWalk}
+use Rattle.store_core.specs.StoreValue.{StoreValue}
 use Rattle.store_core.specs.declared.numbers.Numbers.{Numbers}
 use Rattle.store_report.specs.Texts.{row_text, store_text, table_text}
 use Rattle.lines_in.specs.Causes.{DiskFailed, SayFailed, SomeFailed, StatusCause}
@@ -69,6 +74,25 @@ abbrev pub EndsPairs : ℕ → World → World → Type 0
 EndsPairs status old new =
     (status ≡ done_status) ⊎ ((status ≡ device_status) × DiskFailed old new) ⊎ (status ≡ damaged_status) ⊎ ((status ≡ output_status) × SayFailed old new)
 
+-- ---- what `dump` went along
+
+-- The walks of a scan, from where they began, went over sound blocks alone to the ends of their tables, or to an entry above the upper
+-- bound.
+pub record WentAlong (scan : ScanWalk) (image : Image) : Type 0 where
+  pub walks : List TableWalk
+  pub passes : PassSound scan.tables image scan.merge.walks walks
+  pub done : AreDoneUpTo scan.high scan.tables walks
+
+-- the image opens, and each block of each table of its version is sound
+pub record HasSoundBlocks (spelling : Spelling) (image : Image) : Type 0 where
+  pub store : StoreValue
+  pub opens : IsOpenedAs spelling image store
+  pub sound : AreAllSound store.tables image
+
+-- as many lines were said as a number holds
+abbrev pub SaidAllNumbers : World → World → Type 0
+SaidAllNumbers old new = 2 ^ 64 - 1 + length old.beside.said ≤ length new.beside.said
+
 -- ---- the statuses
 
 abbrev pub IsReading : ℕ → Type 0
@@ -102,9 +126,11 @@ pub record TablesEnds (spelling : Spelling) (first_fault : Bytes → Fault) (tel
 
 -- How `dump` ends. Where what the device holds represents this state, its lines put the pairs of the state's map: with 0 all of them, by
 -- rising keys. Where no call fails they are said whole, but for want of memory. 5 comes of damage that opening finds; or of that of a
--- block, behind some first lines, and then no state is there.
+-- block, and then no state is there, and nothing is said here of the lines before it. Whatever the device holds, 0 comes only where
+-- each block of each table is sound, unless as many lines were said as a number holds.
 pub record DumpEnds (spelling : Spelling) (first_fault : Bytes → Fault) (tells tells_output : Bool) (status : ℕ) (old new : World) : Type 0 where
   pub lines : (s : State) → IsTrue tells → IsTrue tells_output → IsStateOf spelling s old.seen.held → LastLine (IsDumpText s) status old new
   pub complete : (s : State) → IsTrue tells → IsStateOf spelling s old.seen.held → (SomeFailed old new → ⊥) → (status ≡ done_status) ⊎ (status ≡ memory_status)
   pub only_at_damage : IsTrue tells → IsTrue tells_output → status ≡ damaged_status → TellsDamage spelling first_fault old.seen.held old new ⊎ (HasNoState spelling old.seen.held × ShowsSomeDamage new)
+  pub whole : IsTrue tells → IsTrue tells_output → status ≡ done_status → HasSoundBlocks spelling old.seen.held ⊎ SaidAllNumbers old new
   pub reading : ReadingEnds spelling first_fault tells tells_output status old new

@@ -1,13 +1,15 @@
 -- What a run says that answers no line, by what its words ask for.
-use Rattle.std.specs.Prelude.{◌≡◌, ◌⊎◌, ◌++◌, ◌∷◌, [], ℕ, List, codes}
+use Rattle.std.specs.Prelude.{◌≡◌, ◌⊎◌, ◌++◌, ◌∷◌, [], ℕ, Bool, List, IsTrue, codes}
 use Rattle.clap.specs.Walk.{Text}
 use Rattle.disk_trait.specs.World.{World}
 use Rattle.filter_api.specs.Spellings.{Spelling}
 use Rattle.filter_api.specs.declared.settings.Field.{Field}
 use Rattle.line_model.specs.Replies.{Memory, text_of}
+use Rattle.lines_in.specs.Causes.{SayFailed}
 use Rattle.lines_in.specs.Unserved.{Unserved}
-use Rattle.lines_in.specs.Statuses.{done_status, wrong_words_status, memory_status, store_status}
+use Rattle.lines_in.specs.Statuses.{done_status, wrong_words_status, output_status, memory_status, store_status}
 use Rattle.map_model.specs.SortedMap.{Bytes}
+use Rattle.outside.specs.Streams.{SayMoves}
 use Rattle.program_words.specs.Asked.{AreRefusedWords, HasBadNumber, IsHelp}
 use Rattle.program_words.specs.declared.asked.Asked.{Asked}
 use Rattle.program_words.specs.declared.asked.Asked.TheVariants as asked
@@ -20,11 +22,17 @@ use Rattle.surf_run.specs.declared.new_numbers.NewNumbers.TheVariants as new
 
 -- the line that wrong words get
 abbrev pub usage_text : Bytes
-usage_text = codes "usage: surfstore PATH format|serve|load|settings|grow|check" ++ 10 ∷ []
+usage_text = codes "usage: surfstore PATH format|serve|load|settings|grow|check|fstbuild|fstserve" ++ 10 ∷ []
 
 -- there was no memory to find out what the words ask for
 abbrev pub IsMemoryText : ℕ → Bytes → Type 0
 IsMemoryText status text = (status ≡ memory_status) × (text ≡ text_of Memory)
+
+-- so it was, and nothing else was done than to say so
+pub record EndsWithoutMemory (tells_output : Bool) (status : ℕ) (old new : World) : Type 0 where
+  pub ends : (status ≡ memory_status) ⊎ ((status ≡ output_status) × SayFailed old new)
+  pub moves : SayMoves old new
+  pub said : IsTrue tells_output → Unserved IsMemoryText status old new
 
 abbrev pub IsUsageText : ℕ → Bytes → Type 0
 IsUsageText status text = ((status ≡ wrong_words_status) × (text ≡ usage_text)) ⊎ IsMemoryText status text
@@ -57,6 +65,8 @@ pub record Cases : Type 1 where
   pub check : Type 0
   pub tables : Type 0
   pub dump : Type 0
+  pub build_map : Type 0
+  pub serve_map : Type 0
   pub format : NewStore → Type 0
   pub bad_settings : Field → Type 0
   pub help : Type 0
@@ -72,6 +82,8 @@ In (asked.Grow pages) cases = cases.reset (new.Pages pages)
 In asked.Check cases = cases.check
 In asked.Tables cases = cases.tables
 In asked.Dump cases = cases.dump
+In asked.BuildMap cases = cases.build_map
+In asked.ServeMap cases = cases.serve_map
 In (asked.Format store) cases = cases.format store
 In (asked.BadSettings field) cases = cases.bad_settings field
 In (asked.Help text) cases = cases.help
@@ -87,6 +99,8 @@ always Holds = record {
   check = Holds;
   tables = Holds;
   dump = Holds;
+  build_map = Holds;
+  serve_map = Holds;
   format = λ _. Holds;
   bad_settings = λ _. Holds;
   help = Holds;
@@ -154,7 +168,20 @@ IfTables asked Holds = In asked (record nothing { tables = Holds; memory = Holds
 abbrev pub IfDump : Asked → Type 0 → Type 0
 IfDump asked Holds = In asked (record nothing { dump = Holds; memory = Holds })
 
+-- where a static map was to be built, or to be served
+abbrev pub IfBuildMap : Asked → Type 0 → Type 0
+IfBuildMap asked Holds = In asked (record nothing { build_map = Holds; memory = Holds })
+
+abbrev pub IfServeMap : Asked → Type 0 → Type 0
+IfServeMap asked Holds = In asked (record nothing { serve_map = Holds; memory = Holds })
+
 -- ---- this was asked for, and nothing else
+
+abbrev pub IsBuildMapAsk : Asked → Type 0
+IsBuildMapAsk asked = In asked (record never { build_map = Unit {0} })
+
+abbrev pub IsServeMapAsk : Asked → Type 0
+IsServeMapAsk asked = In asked (record never { serve_map = Unit {0} })
 
 abbrev pub IsLoadAsk : Asked → Type 0
 IsLoadAsk asked = In asked (record never { load = λ _. Unit {0} })

@@ -15,8 +15,11 @@ use Rattle.manifest.specs.NewManifest.{has_open}
 use Rattle.manifest_model.specs.Slots.{IsNoStore, IsVersionOf}
 use Rattle.manifest_model.specs.Version.{Version}
 use Rattle.map_model.specs.SortedMap.{Bytes}
+use Rattle.map_run_model.specs.Building.{BuildContract}
+use Rattle.map_run_model.specs.LastLines.{no_map_status}
+use Rattle.map_run_model.specs.Serving.{ServeContract}
 use Rattle.outside.specs.Streams.{SayMoves}
-use Rattle.program_words.specs.Asked.{AreRefusedWords, HasBadNumber, IsCheck, IsDump, IsFormat, IsGrow, IsHelp, IsLoadInRange, IsServe, IsTables, OpensStore, OpensWithoutGrowing}
+use Rattle.program_words.specs.Asked.{AreRefusedWords, HasBadNumber, IsCheck, IsDump, IsFormat, IsGrow, IsHelp, IsLoadInRange, IsMapBuild, IsMapServe, IsServe, IsTables, OpensStore, OpensWithoutGrowing}
 use Rattle.program_words.specs.NewStores.{IsStoreOf, first_bad_word}
 use Rattle.program_words.specs.declared.load.Load.{Load}
 use Rattle.program_words.specs.declared.new_store.NewStore.{NewStore}
@@ -32,7 +35,7 @@ use Rattle.surf_run.specs.MapCrash.{OneMapLasts}
 use Rattle.surf_run.specs.Open.{IsOpeningText, OpensNothing}
 use Rattle.surf_run.specs.Readings.{DumpEnds, TablesEnds}
 use Rattle.surf_run.specs.Resetting.{AskFor, IsInLastEpoch, IsResetEnd, IsResetting, OpenedThenReset, ResetEnds, TellsWhich}
-use Rattle.surf_run.specs.Run.{AskNothing, FormatEnds, IsBadSettingsText, IsHelpText, IsUsageText}
+use Rattle.surf_run.specs.Run.{AskNothing, EndsWithoutMemory, FormatEnds, IsBadSettingsText, IsHelpText, IsUsageText}
 use Rattle.table_file.specs.Faults.{filter_fault_of}
 use Rattle.surf_run.specs.declared.new_numbers.NewNumbers.{NewNumbers}
 use Rattle.surf_run.specs.declared.new_numbers.NewNumbers.TheVariants as new_numbers
@@ -124,10 +127,10 @@ pub record RunContract {X : Type 0} (world : X → World) (tells tells_input tel
   -- Words that are refused or answered, and numbers out of range: nothing is called but the output.
   pub untouched : AskNothing words → SayMoves (world old) (world new)
   -- Status 5 comes only where opening finds damage, and says the first, or where no state is there and a block that was read shows
-  -- the damage that was said, or that a merge slice met, of which nothing is said.
+  -- the damage that was said, or that a merge slice met, of which nothing is said; or of `fstserve`.
   pub only_at_damage :
       IsTrue tells → IsTrue tells_input → IsTrue tells_output → status ≡ damaged_status
-      → TellsDamage kind.spelling first_fault (world old).seen.held (world old) (world new) ⊎ (HasNoState kind.spelling (world old).seen.held × RunMeetsDamage ((load : Load) × IsLoadInRange words load) (world old) (world new))
+      → TellsDamage kind.spelling first_fault (world old).seen.held (world old) (world new) ⊎ (HasNoState kind.spelling (world old).seen.held × RunMeetsDamage ((load : Load) × IsLoadInRange words load) (world old) (world new)) ⊎ IsMapServe words
   -- Of all but `format`, where no store is there or opening finds damage, no line is served, no step made and no number set: nothing is
   -- taken or written, and the one last line says so, or `device` or `memory`.
   pub unopened :
@@ -153,4 +156,9 @@ pub record RunContract {X : Type 0} (world : X → World) (tells tells_input tel
   pub tables : IsTables words → TablesEnds kind.spelling first_fault tells tells_output status (world old) (world new)
   -- Of `dump`: the pairs of the map, as lines that put them; and it changes nothing.
   pub dump : IsDump words → DumpEnds kind.spelling first_fault tells tells_output status (world old) (world new)
-  pub statuses : IsServing status ⊎ (status ≡ wrong_words_status) ⊎ (status ≡ damaged_status) ⊎ (status ≡ memory_status) ⊎ (status ≡ store_status) ⊎ (status ≡ last_epoch_status) ⊎ (status ≡ findings_status)
+  -- Of `fstbuild` and `fstserve`: a static map is built of the lines of the input, or they are answered by one; or there was no memory to
+  -- find out what the words ask for. Status 11 comes only of lines that are no map.
+  pub map_built : IsMapBuild words → BuildContract world tells tells_input tells_output status old new ⊎ EndsWithoutMemory tells_output status (world old) (world new)
+  pub map_served : IsMapServe words → ServeContract world tells tells_input tells_output status old new ⊎ EndsWithoutMemory tells_output status (world old) (world new)
+  pub only_at_no_map : status ≡ no_map_status → IsMapBuild words
+  pub statuses : IsServing status ⊎ (status ≡ wrong_words_status) ⊎ (status ≡ damaged_status) ⊎ (status ≡ memory_status) ⊎ (status ≡ store_status) ⊎ (status ≡ last_epoch_status) ⊎ (status ≡ findings_status) ⊎ (status ≡ no_map_status)

@@ -1,19 +1,19 @@
 //! The pairs of a store, each as the line that puts it.
-ghost use Rattle.std.specs.Prelude.{◌≡◌, ◌⊎◌, ◌≤◌, ◌<◌, ◌++◌, [], ◌^◌, length, take, false, IfOk, IsTrue, OnErr};
+ghost use Rattle.std.specs.Prelude.{◌≡◌, ◌⊎◌, ◌≤◌, ◌<◌, ◌++◌, [], ◌^◌, length, take, false, None, IfOk, IsTrue, OnErr};
 ghost use Rattle.key_base.specs.Limits.{max_key_bytes, max_value_bytes};
 ghost use Rattle.lines_in.specs.Causes.{SayFailed};
-ghost use Rattle.lines_in.specs.Statuses.{damaged_status, memory_status, output_status};
+ghost use Rattle.lines_in.specs.Statuses.{damaged_status, done_status, memory_status, output_status};
 ghost use Rattle.lines_in.specs.Unserved.{LastLine};
 ghost use Rattle.map_model.specs.SortedMap.{Map};
 ghost use Rattle.outside.specs.Streams.{SayMoves, SaysPrefix};
 ghost use Rattle.state_model.specs.State.{State};
 ghost use Rattle.store_commands.specs.Puts.{put_text};
 ghost use Rattle.store_core.specs.Represents.{ReadsAs};
-ghost use Rattle.store_core.specs.Scans.{StillComes};
+ghost use Rattle.store_core.specs.Scans.{AreAllSound, StillComes};
 ghost use Rattle.surf_run.specs.Causes.{ShowsSomeDamage};
 ghost use Rattle.surf_run.specs.Checks.{ChangesNothing};
 ghost use Rattle.surf_run.specs.Open.{IsOpening, opening_status, opening_text};
-ghost use Rattle.surf_run.specs.Readings.{DumpEnds, EndsPairs, IsDumpText, IsPairsText};
+ghost use Rattle.surf_run.specs.Readings.{DumpEnds, EndsPairs, IsDumpText, IsPairsText, SaidAllNumbers, WentAlong};
 ghost use Rattle.table_model.specs.Tables.{filter_bytes_of};
 
 use crate::opening::say_why;
@@ -79,6 +79,7 @@ fn say_pairs<F: RangeFilter, W: Outside>(scan: Scan<'_, F>, buffer: &mut [u8], o
     ensures lines { (m : Map) → IsTrue W.tells → IsTrue W.tells_output → length m < 2 ^ 64 → StillComes F.spelling scan.entry m (W.world out.old).seen.held → LastLine (IsPairsText m) result (W.world out.old) (W.world out.new) }
     ensures sound { (m : Map) → IsTrue W.tells → StillComes F.spelling scan.entry m (W.world out.old).seen.held → result ≡ damaged_status → ⊥ }
     ensures shown { IsTrue W.tells → IsTrue W.tells_output → result ≡ damaged_status → ShowsSomeDamage (W.world out.new) }
+    ensures whole { IsTrue W.tells → IsTrue W.tells_output → result ≡ done_status → scan.entry.left ≡ None → WentAlong scan.entry (W.world out.old).seen.held ⊎ SaidAllNumbers (W.world out.old) (W.world out.new) }
     ensures ends { EndsPairs result (W.world out.old) (W.world out.new) }
     ensures changes { ChangesNothing (W.world out.old) (W.world out.new) }
 {
@@ -110,6 +111,7 @@ fn say_store<F: RangeFilter, W: Outside>(store: &Store<F>, buffer: &mut [u8], ou
         → LastLine (IsDumpText s) result (W.world out.old) (W.world out.new) }
     ensures sound { (s : State) → IsTrue W.tells → ReadsAs F.spelling (filter_bytes_of F.spelling F.built_cutoff) store.now s (W.world out.old).seen.held → result ≡ damaged_status → ⊥ }
     ensures shown { IsTrue W.tells → IsTrue W.tells_output → result ≡ damaged_status → ShowsSomeDamage (W.world out.new) }
+    ensures whole { IsTrue W.tells → IsTrue W.tells_output → result ≡ done_status → AreAllSound store.now.tables (W.world out.old).seen.held ⊎ SaidAllNumbers (W.world out.old) (W.world out.new) }
     ensures ends { EndsPairs result (W.world out.old) (W.world out.new) ⊎ (result ≡ memory_status) }
     ensures changes { ChangesNothing (W.world out.old) (W.world out.new) }
 {
@@ -126,6 +128,7 @@ fn dump_store<F: RangeFilter, W: Outside>(alloc: Global, store: &Store<F>, out: 
         → LastLine (IsDumpText s) result (W.world out.old) (W.world out.new) }
     ensures sound { (s : State) → IsTrue W.tells → ReadsAs F.spelling (filter_bytes_of F.spelling F.built_cutoff) store.now s (W.world out.old).seen.held → result ≡ damaged_status → ⊥ }
     ensures shown { IsTrue W.tells → IsTrue W.tells_output → result ≡ damaged_status → ShowsSomeDamage (W.world out.new) }
+    ensures whole { IsTrue W.tells → IsTrue W.tells_output → result ≡ done_status → AreAllSound store.now.tables (W.world out.old).seen.held ⊎ SaidAllNumbers (W.world out.old) (W.world out.new) }
     ensures ends { EndsPairs result (W.world out.old) (W.world out.new) ⊎ (result ≡ memory_status) }
     ensures changes { ChangesNothing (W.world out.old) (W.world out.new) }
 {

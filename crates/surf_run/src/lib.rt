@@ -12,8 +12,8 @@
 //! slice after it.
 //!
 //! A put makes two writes and two syncs, and where it does not fit the log a flush before; a get reads at most one block of
-//! each table that admits its key, and a closed seek one of each table that admits its range and one more for each entry of a
-//! deleted key that it passes. A range says its pairs as they are found, in pieces of the reply buffer. After each put and
+//! each table that admits its key, and a closed seek one of each table that admits its range up to its answer and one more for
+//! each entry of a deleted key that it passes. A range says its pairs as they are found, in pieces of the reply buffer. After each put and
 //! delete comes a merge slice, where tables are to be merged: it reads at most eight blocks and writes at most one table, and
 //! nothing is said of it. All memory but the store's is taken before the first line. Not for more than one input.
 //!
@@ -43,7 +43,7 @@ mod resetting;
 mod tables;
 mod top;
 
-pub use laws::{replies_are_of_the_map, runs_chain};
+pub use laws::{dumps_are_copies, replies_are_of_the_map, runs_chain};
 pub use lines_in::LineEnd;
 pub use new_numbers::NewNumbers;
 pub use one_line::serve_line;

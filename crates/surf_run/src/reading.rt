@@ -5,11 +5,12 @@ ghost use Rattle.image_model.specs.Stands.{IsStateOf};
 ghost use Rattle.key_base.specs.Limits.{max_tables};
 ghost use Rattle.state_model.specs.Logs.{filled_by};
 ghost use Rattle.state_model.specs.State.{State};
+ghost use Rattle.store_core.specs.Opening.{IsOpenedAs};
 ghost use Rattle.store_core.specs.Represents.{ReadsAs};
 ghost use Rattle.surf_run.specs.Open.{IsFreeText, OpensNothing};
 ghost use Rattle.surf_run.specs.Readings.{ReadingEnds};
 ghost use Rattle.surf_run.specs.ServedOrNot.{TellsDamage};
-ghost use Rattle.lines_in.specs.Statuses.{damaged_status, device_status, memory_status, output_status};
+ghost use Rattle.lines_in.specs.Statuses.{damaged_status, device_status, done_status, memory_status, output_status};
 ghost use Rattle.lines_in.specs.Unserved.{LastLine};
 ghost use Rattle.table_model.specs.Tables.{filter_bytes_of};
 
@@ -35,6 +36,8 @@ pub(crate) fn read_or_say<F: RangeFilter, W: Outside>(
     ensures running { IfOk result (λ store. store.stopped ≡ false) }
     ensures still { IfOk result (λ _. ReadMoves (7 + 2 * max_tables) (W.world out.old) (W.world out.new)) }
     ensures opens_something { IsTrue W.tells → IfOk result (λ _. OpensNothing F.spelling F.first_fault (W.world out.old).seen.held → ⊥) }
+    ensures opened { IsTrue W.tells → IfOk result (IsOpenedAs F.spelling (W.world out.old).seen.held) }
+    ensures not_done { IfErr result (λ status. status ≡ done_status → ⊥) }
     ensures only_at_damage { IsTrue W.tells → IsTrue W.tells_output → IfErr result (λ status. status ≡ damaged_status → TellsDamage F.spelling F.first_fault (W.world out.old).seen.held (W.world out.old) (W.world out.new)) }
     ensures ends { IfErr result (λ status. ReadingEnds F.spelling F.first_fault W.tells W.tells_output status (W.world out.old) (W.world out.new)) }
 {

@@ -8,6 +8,9 @@ ghost use Rattle.lines_in.specs.Unserved.{Unserved};
 ghost use Rattle.lines_in.specs.Statuses.{done_status, wrong_words_status, damaged_status, memory_status, store_status, last_epoch_status, findings_status};
 ghost use Rattle.manifest_model.specs.Slots.{IsNoStore, IsVersionOf};
 ghost use Rattle.manifest_model.specs.Version.{Version};
+ghost use Rattle.map_run_model.specs.Building.{BuildContract};
+ghost use Rattle.map_run_model.specs.LastLines.{no_map_status};
+ghost use Rattle.map_run_model.specs.Serving.{ServeContract};
 ghost use Rattle.outside.specs.Streams.{SayMoves};
 ghost use Rattle.state_model.specs.State.{State};
 ghost use Rattle.surf_run.specs.Causes.{RunMeetsDamage};
@@ -19,7 +22,7 @@ ghost use Rattle.surf_run.specs.Open.{OpeningEnds};
 ghost use Rattle.surf_run.specs.Readings.{DumpEnds, TablesEnds};
 ghost use Rattle.surf_run.specs.RunContract.{RunContract};
 ghost use Rattle.surf_run.specs.Resetting.{IsInLastEpoch, IsResetEnd, IsResetting, OpenedThenReset, ResetEnds, TellsWhich};
-ghost use Rattle.surf_run.specs.Run.{FormatEnds, HasSettingsInRange, IfBadSettings, IfCheck, IfDump, IfFormat, IfHelp, IfLoad, IfOpens, IfOpensWithoutGrowing, IfRefused, IfReset, IfServe, IfTables, IfUnserved, IsBadSettingsText, IsCheckAsk, IsHelpText, IsLoadAsk, IsMemoryText, IsRefusedAsk, IsResetAsk, IsUsageText};
+ghost use Rattle.surf_run.specs.Run.{EndsWithoutMemory, FormatEnds, HasSettingsInRange, IfBadSettings, IfBuildMap, IfCheck, IfDump, IfFormat, IfHelp, IfLoad, IfOpens, IfOpensWithoutGrowing, IfRefused, IfReset, IfServe, IfServeMap, IfTables, IfUnserved, IsBadSettingsText, IsBuildMapAsk, IsCheckAsk, IsHelpText, IsLoadAsk, IsMemoryText, IsRefusedAsk, IsResetAsk, IsServeMapAsk, IsUsageText};
 
 use crate::checking::run_check;
 use crate::dumping::run_dump;
@@ -31,15 +34,21 @@ use crate::resetting::open_and_reset;
 use crate::tables::run_tables;
 use filter_api::RangeFilter;
 use lines_in::{Status, last_line, say_last};
+use map_run_model::MapPrograms;
 use outside::Outside;
 use program_words::{Asked, read_words};
 use std::alloc::Global;
 use store_commands::Reply;
 
-const USAGE: &[u8] = b"usage: surfstore PATH format|serve|load|settings|grow|check\n";
+const USAGE: &[u8] =
+    b"usage: surfstore PATH format|serve|load|settings|grow|check|fstbuild|fstserve\n";
 
 // Does what was asked for: the clauses are those of `RunContract`, each where this was asked for.
-fn run_asked<F: RangeFilter, W: Outside>(alloc: Global, asked: Asked, out: &mut W) -> u8
+fn run_asked<F: RangeFilter, P: MapPrograms<W>, W: Outside>(
+    alloc: Global,
+    asked: Asked,
+    out: &mut W,
+) -> u8
     requires { HasSettingsInRange asked }
     ensures outcome { (s : State) → IsTrue W.tells → IsTrue W.tells_input → IsTrue W.tells_output → Now (IsStateOf F.spelling s) (W.world out.old) → IfServe asked (ServedOrNot (filter_kind F.spelling F.built_cutoff) result s (W.world out.old) (W.world out.new)) }
     ensures answers { (s : State) → IsTrue W.tells → IsTrue W.tells_input → IsTrue W.tells_output → IsStateOf F.spelling s (W.world out.old).seen.held
@@ -76,7 +85,7 @@ fn run_asked<F: RangeFilter, W: Outside>(alloc: Global, asked: Asked, out: &mut 
     ensures told_of_bad_settings { IfBadSettings asked (λ _. EndsAt store_status result (W.world out.old) (W.world out.new)) (EndsAt store_status result (W.world out.old) (W.world out.new)) }
     ensures told_of_help { IfHelp asked (EndsAt done_status result (W.world out.old) (W.world out.new)) }
     ensures untouched { IfUnserved asked (SayMoves (W.world out.old) (W.world out.new)) }
-    ensures only_at_damage { IsTrue W.tells → IsTrue W.tells_input → IsTrue W.tells_output → result ≡ damaged_status → TellsDamage F.spelling F.first_fault (W.world out.old).seen.held (W.world out.old) (W.world out.new) ⊎ (HasNoState F.spelling (W.world out.old).seen.held × RunMeetsDamage (IsLoadAsk asked) (W.world out.old) (W.world out.new)) }
+    ensures only_at_damage { IsTrue W.tells → IsTrue W.tells_input → IsTrue W.tells_output → result ≡ damaged_status → TellsDamage F.spelling F.first_fault (W.world out.old).seen.held (W.world out.old) (W.world out.new) ⊎ (HasNoState F.spelling (W.world out.old).seen.held × RunMeetsDamage (IsLoadAsk asked) (W.world out.old) (W.world out.new)) ⊎ IsServeMapAsk asked }
     ensures ending { IfOpens asked (OpeningEnds F.spelling F.first_fault W.tells W.tells_output result (W.world out.old) (W.world out.new)) }
     ensures within { (v : Version) → IsTrue W.tells → IsVersionOf v (W.world out.old).seen.held → IfOpens asked (WritesWithin (page_bytes * v.pages) (W.world out.old) (W.world out.new)) }
     ensures only_at_no_store { IsTrue W.tells → result ≡ store_status → IfOpensWithoutGrowing asked (IsNoStore (W.world out.old).seen.held) }
@@ -86,8 +95,11 @@ fn run_asked<F: RangeFilter, W: Outside>(alloc: Global, asked: Asked, out: &mut 
     ensures check { IfCheck asked (CheckEnds F.spelling F.first_fault W.tells W.tells_output result (W.world out.old) (W.world out.new)) }
     ensures tables { IfTables asked (TablesEnds F.spelling F.first_fault W.tells W.tells_output result (W.world out.old) (W.world out.new)) }
     ensures dump { IfDump asked (DumpEnds F.spelling F.first_fault W.tells W.tells_output result (W.world out.old) (W.world out.new)) }
+    ensures map_built { IfBuildMap asked (BuildContract W.world W.tells W.tells_input W.tells_output result out.old out.new ⊎ EndsWithoutMemory W.tells_output result (W.world out.old) (W.world out.new)) }
+    ensures map_served { IfServeMap asked (ServeContract W.world W.tells W.tells_input W.tells_output result out.old out.new ⊎ EndsWithoutMemory W.tells_output result (W.world out.old) (W.world out.new)) }
+    ensures at_eleven { result ≡ no_map_status → IsBuildMapAsk asked }
     ensures at_twelve { result ≡ findings_status → IsCheckAsk asked }
-    ensures statuses { IsServing result ⊎ (result ≡ wrong_words_status) ⊎ (result ≡ damaged_status) ⊎ (result ≡ memory_status) ⊎ (result ≡ store_status) ⊎ (result ≡ last_epoch_status) ⊎ (result ≡ findings_status) }
+    ensures statuses { IsServing result ⊎ (result ≡ wrong_words_status) ⊎ (result ≡ damaged_status) ⊎ (result ≡ memory_status) ⊎ (result ≡ store_status) ⊎ (result ≡ last_epoch_status) ⊎ (result ≡ findings_status) ⊎ (result ≡ no_map_status) }
 {
     match asked {
         Asked::Serve => open_and_serve::<F, W>(alloc, out),
@@ -99,6 +111,8 @@ fn run_asked<F: RangeFilter, W: Outside>(alloc: Global, asked: Asked, out: &mut 
         Asked::Check => run_check::<F, W>(alloc, out),
         Asked::Tables => run_tables::<F, W>(alloc, out),
         Asked::Dump => run_dump::<F, W>(alloc, out),
+        Asked::BuildMap => P::build(alloc, out),
+        Asked::ServeMap => P::serve(alloc, out),
         Asked::Format(store) => run_format::<F, W>(alloc, store.settings, store.pages, out),
         Asked::BadSettings(field) => say_bad_settings(out, field),
         Asked::Help(text) => say_last(out, text.as_bytes(), Status::Done as u8),
@@ -112,7 +126,8 @@ fn run_asked<F: RangeFilter, W: Outside>(alloc: Global, asked: Asked, out: &mut 
 /// `format` makes the device an empty store. `serve` opens the store on the device and answers the lines of the input, each
 /// reply said before the next line is begun. `load` opens it too, makes its steps, each as a line would with a merge slice after
 /// it, and says one line of the map that is then there. `settings` and `grow` open it, give it new numbers and say them. `check`
-/// reads all of it, says what is wrong and changes nothing, `tables` says what each table has, and `dump` each pair. Help and the version are said with status 0.
+/// reads all of it, says what is wrong and changes nothing, `tables` says what each table has, and `dump` each pair. `fstbuild` and
+/// `fstserve` are the programs of a static map, which are handed in (`MapPrograms`). Help and the version are said with status 0.
 ///
 /// | status | comes |
 /// |---|---|
@@ -124,10 +139,15 @@ fn run_asked<F: RangeFilter, W: Outside>(alloc: Global, asked: Asked, out: &mut 
 /// | 8 | not a store, already a store, a number out of range |
 /// | 9 | 2^40 bytes were taken |
 /// | 10 | `settings` or `grow` at the last epoch |
+/// | 11 | the lines of `fstbuild` are no map |
 /// | 12 | `check` found something wrong |
-pub fn run<F: RangeFilter, W: Outside>(alloc: Global, words: &[String], out: &mut W) -> u8
+pub fn run<F: RangeFilter, P: MapPrograms<W>, W: Outside>(
+    alloc: Global,
+    words: &[String],
+    out: &mut W,
+) -> u8
     ensures { RunContract W.world W.tells W.tells_input W.tells_output (filter_kind F.spelling F.built_cutoff) F.first_fault (map string_bytes words.now) result out.old out.new }
 {
     let asked = read_words(alloc, words);
-    run_asked::<F, W>(alloc, asked, out)
+    run_asked::<F, P, W>(alloc, asked, out)
 }

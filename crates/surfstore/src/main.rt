@@ -1,6 +1,7 @@
 //! `surfstore PATH WORDS`: a store on the device file at PATH, over standard input and output.
 #![tactic(auto)]
 
+use fst_run::FstPrograms;
 use outside::say_all;
 use real_outside::FileOutside;
 use std::alloc::Global;
@@ -31,7 +32,7 @@ fn main(rt: HostRuntime) -> ExitCode {
     } else {
         FileOutside::at(rt, path)
     };
-    ExitCode::from(run::<SurfFilter<Global>, _>(alloc, words.as_slice(), &mut out))
+    ExitCode::from(run::<SurfFilter<Global>, FstPrograms, _>(alloc, words.as_slice(), &mut out))
 }
 
 // Whether the first word asks for help or the version, and so names no device.
@@ -45,7 +46,7 @@ fn asks_for_text(words: &[String]) -> bool {
 // Whether the words after the path ask for what only reads: then no file is made, and none is written.
 fn reads_alone(words: &[String]) -> bool {
     match words.first() {
-        Some(word) => matches!(word.as_str(), "check" | "dump" | "tables"),
+        Some(word) => matches!(word.as_str(), "check" | "dump" | "fstserve" | "tables"),
         None => false,
     }
 }

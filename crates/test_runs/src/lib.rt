@@ -13,12 +13,14 @@
 mod first_format;
 mod left;
 mod made;
+mod no_maps;
 mod runs;
 mod torn;
 
 pub use first_format::format_1;
 pub use left::{Left, left_by};
 pub use made::{LAST_EPOCH_SUM, four_tables, push_large, stands};
+pub use no_maps::NoMaps;
 pub use runs::{
     Ended, Succinct, base_disk, calls_of, commanded, failing, formatted, left_behind, lost, opened,
     outside, paced, ran, ran_by, served, served_by, stopped, written,

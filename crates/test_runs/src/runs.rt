@@ -1,6 +1,7 @@
 //! Runs of the program in memory.
 //!
 //! Disks, outsides and stores come in boxes: a function that holds one is then proved soon, whatever it owns.
+use crate::no_maps::NoMaps;
 use disk_mem::{Choice, MemDisk};
 use filter_api::RangeFilter;
 use outside::MemOutside;
@@ -70,7 +71,7 @@ pub fn ran_by<F: RangeFilter>(
 ) -> Result<Ended, Fail> {
     let words = words_of(alloc, words)?;
     let mut out = out;
-    let status = run::<F, _>(alloc, words.as_slice(), &mut *out);
+    let status = run::<F, NoMaps, _>(alloc, words.as_slice(), &mut *out);
     let said = Vec::from_slice(alloc, out.said())?;
     Ok(Ended {
         status,

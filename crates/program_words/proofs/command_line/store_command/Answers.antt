@@ -1,7 +1,7 @@
 use Rattle.std.proofs.Common.{◌≡◌, ◌∙◌, ap, ap₂, codes, true}
 use Rattle.std.proofs.lemmas.Result.{IfOk-weaker}
 use Rattle.clap.specs.Simple.{App, app_of, new_app, on_top, with_subcommand}
-use Rattle.program_words.specs.CommandLine.{check_app, format_app, grow_app, load_app, serve_app, settings_app, tables_app}
+use Rattle.program_words.specs.CommandLine.{check_app, dump_app, format_app, fstbuild_app, grow_app, load_app, serve_app, settings_app, tables_app}
 use Rattle.program_words.proofs.command_line.store_command.Goals as goal
 
 abbrev bare : App
@@ -26,4 +26,8 @@ returns c =
     c.in_ok-with_check.ensures.shape c.check_command.ensures.local ∙ ap₂ with_subcommand with_grow_is (ap (λ (a : App). a.top) c.check_command.ensures.app) in
     let with_tables_is : app_of c.in_ok-with_tables.with_tables ≡ with_subcommand (with_subcommand (with_subcommand (with_subcommand (with_subcommand (with_subcommand (with_subcommand bare format_app.top) serve_app.top) load_app.top) settings_app.top) grow_app.top) check_app.top) tables_app.top =
     c.in_ok-with_tables.ensures.shape c.tables_command.ensures.local ∙ ap₂ with_subcommand with_check_is (ap (λ (a : App). a.top) c.tables_command.ensures.app) in
-    IfOk-weaker c.subcommand-8.result _ _ (λ r h. h.shape c.dump_command.ensures.local ∙ ap₂ with_subcommand with_tables_is (ap (λ (a : App). a.top) c.dump_command.ensures.app)) c.subcommand-8.ensures
+    let with_dump_is : app_of c.in_ok-with_dump.with_dump ≡ with_subcommand (with_subcommand (with_subcommand (with_subcommand (with_subcommand (with_subcommand (with_subcommand (with_subcommand bare format_app.top) serve_app.top) load_app.top) settings_app.top) grow_app.top) check_app.top) tables_app.top) dump_app.top =
+    c.in_ok-with_dump.ensures.shape c.dump_command.ensures.local ∙ ap₂ with_subcommand with_tables_is (ap (λ (a : App). a.top) c.dump_command.ensures.app) in
+    let with_fstbuild_is : app_of c.in_ok-with_fstbuild.with_fstbuild ≡ with_subcommand (with_subcommand (with_subcommand (with_subcommand (with_subcommand (with_subcommand (with_subcommand (with_subcommand (with_subcommand bare format_app.top) serve_app.top) load_app.top) settings_app.top) grow_app.top) check_app.top) tables_app.top) dump_app.top) fstbuild_app.top =
+    c.in_ok-with_fstbuild.ensures.shape c.fstbuild_command.ensures.local ∙ ap₂ with_subcommand with_dump_is (ap (λ (a : App). a.top) c.fstbuild_command.ensures.app) in
+    IfOk-weaker c.subcommand-10.result _ _ (λ r h. h.shape c.fstserve_command.ensures.local ∙ ap₂ with_subcommand with_fstbuild_is (ap (λ (a : App). a.top) c.fstserve_command.ensures.app)) c.subcommand-10.ensures

@@ -1,4 +1,4 @@
-use Rattle.std.proofs.Common.{◌≡◌, ◌*◌, Bor, List, ℕ, length, ap, refl, subst}
+use Rattle.std.proofs.Common.{◌≡◌, ◌*◌, Bor, List, ℕ, length, ap, refl, subst, arith}
 use Rattle.std.specs.Option.{option_map}
 use Rattle.std.specs.Prelude.{Option, Some, None}
 use Rattle.block_model.specs.Pages.{page_bytes}
@@ -35,7 +35,7 @@ returns-in-Ok-Some g c =
     let found = subst (λ (o : Option (Bor (List ℕ))). option_map (λ v. v.now) o ≡ get (state_map s) c.args.key.now) c.in-Ok-Some.field-0-is (c.in-Ok-Some.ensures.answer s tells tied) in
     still_next kind s (Get c.args.key.now) after a mid b moves.beside moves.time held stand (λ _. c.get.ensures.gets.bounded s tells tied) writes (g.met.W.Outside.said_now c.args.out.now) (g.met.W.Outside.said_now c.get.new.disk) c.say_reply.ensures.moves
     (Value value) c.say_reply.result (got_step (HasCause a mid) kind.filter_bytes s c.args.key.now (Some value) c.in-Ok-Some.ensures.gets.refused.1 found) refl
-    (c.say_reply.ensures.says output (value_short kind.filter_bytes s c.args.key.now value tied.sound found)))
+    (c.say_reply.ensures.says output (let few = value_short kind.filter_bytes s c.args.key.now value tied.sound found in omega (arith, few))))
     (said_cause c.say_reply.result Next a mid b c.say_reply.ensures.cause _ tt (line_read (length c.args.store.now.tables) a mid c.get.ensures.gets.moves).counts)
 
 pub returns-in-Ok-None : goal.returns-in-Ok-None

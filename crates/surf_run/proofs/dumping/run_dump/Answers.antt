@@ -1,11 +1,13 @@
-use Rattle.std.proofs.Common.{◌≡◌, ◌+◌, ◌*◌, inl, inr, subst, sym}
+use Rattle.std.proofs.Common.{◌≡◌, ◌+◌, ◌*◌, inl, inr, ap, arith, length, subst, sym}
 use Rattle.std.specs.Prelude.{IsTrue}
 use Rattle.disk_trait.specs.Image.{Image}
+use Rattle.disk_trait.specs.World.{Streams}
 use Rattle.image_model.specs.Stands.{IsStateOf}
 use Rattle.key_base.specs.Limits.{max_tables}
 use Rattle.lines_in.proofs.EndCauses.{causes_on}
 use Rattle.state_model.specs.State.{State}
 use Rattle.store_core.specs.Represents.{ReadsAs}
+use Rattle.store_core.specs.Scans.{AreAllSound}
 use Rattle.surf_run.proofs.Checked.{changes_on, changes_read}
 use Rattle.surf_run.proofs.Dumped.{dump_causes, dump_never_eight, dump_reads, dump_whole, free_of_pairs}
 use Rattle.surf_run.proofs.Openings.{opened_ends}
@@ -36,6 +38,10 @@ returns-in-Ok g c =
       lines = λ s tells output is. line_since (IsDumpText s) status old mid new read.still.beside (c.dump_store.ensures.lines s tells output (reads s tells is));
       complete = λ s tells is none. dump_whole status old mid new ends (c.dump_store.ensures.sound s tells (reads s tells is)) causes none;
       only_at_damage = λ tells output five. inr (λ s is. c.dump_store.ensures.sound s tells (reads s tells is) five, c.dump_store.ensures.shown tells output five);
+      whole = λ tells output done. elim (c.dump_store.ensures.whole tells output done) [
+        | inl sound ↦ inl record { store = c.in-Ok.store; opens = read.opened tells; sound = subst (λ (f : Image). AreAllSound c.in-Ok.store.tables f) read.still.held sound }
+        | inr many ↦ inr (omega (arith, many, ap (λ (s : Streams). length s.said) read.still.beside))
+      ];
       reading = reading_ends spelling first g.W.Disk.tells g.W.Outside.tells_output status old new (opened_ends spelling first g.W.Disk.tells g.W.Outside.tells_output status old new read.opens_something)
           (λ tells eight. absurd (dump_never_eight status mid new ends eight)) causes (dump_reads status mid new ends) (changes_on old mid new changes c.dump_store.ensures.changes);
     }
@@ -49,5 +55,6 @@ returns-in-Err g c =
       lines = λ s tells output is. free_of_pairs s c.in-Err.status old new (read.free s tells output is);
       complete = λ s tells is none. failed_whole c.in-Err.status old new (read.failed s tells is) read.ends.causes none;
       only_at_damage = λ tells output five. inl (read.only_at_damage tells output five);
+      whole = λ tells output done. absurd (read.not_done done);
       reading = read.ends;
     }

@@ -18,6 +18,24 @@ returns-in-Ok-clause-opens_something g c tells nothing =
       | inr found ↦ opened_has_none g.F.RangeFilter.spelling (filter_fault_of g.F.RangeFilter.first_fault) _ _ _ found.0 g.met.F.RangeFilter.spells_one opened.opens found.1
     ]
 
+pub returns-in-Ok-clause-opened : goal.returns-in-Ok-clause-opened
+returns-in-Ok-clause-opened g c tells = c.in-Ok.ensures.answer tells
+
+pub returns-in-Err-clause-not_done : goal.returns-in-Err-clause-not_done
+returns-in-Err-clause-not_done g c zero =
+    let why = c.in-Err.why in
+    let is = opening_of why (g.W.Disk.world c.args.out.now) (g.W.Disk.world c.read_store.new.disk) c.in-Err.ensures.cause in
+    elim c.say_why.ensures.ends [
+      | inl same ↦ elim (opening_statuses why is) [
+        | inl seven ↦ let e : 7 ≡ 0 = sym (same ∙ seven) ∙ zero in cc
+        | inr more ↦ elim more [
+          | inl four ↦ let e : 4 ≡ 0 = sym (same ∙ four) ∙ zero in cc
+          | inr more ↦ elim more [ inl five ↦ let e : 5 ≡ 0 = sym (same ∙ five) ∙ zero in cc | inr eight ↦ let e : 8 ≡ 0 = sym (same ∙ eight) ∙ zero in cc ]
+        ]
+      ]
+      | inr six ↦ let e : 6 ≡ 0 = sym six.0 ∙ zero in cc
+    ]
+
 pub say_why-requires : goal.say_why-requires
 say_why-requires g c = opening_of c.in-Err.why (g.W.Disk.world c.args.out.now) (g.W.Disk.world c.read_store.new.disk) c.in-Err.ensures.cause
 

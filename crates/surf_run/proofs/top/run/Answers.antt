@@ -5,7 +5,7 @@ use Rattle.lines_in.proofs.LastLines.{unserved_wider}
 use Rattle.surf_run.specs.Kind.{filter_kind}
 use Rattle.surf_run.specs.Run.{IsBadSettingsText, IsMemoryText}
 use Rattle.surf_run.specs.declared.new_numbers.NewNumbers.TheVariants as new
-use Rattle.surf_run.proofs.Asking.{has_settings_in_range, if_bad, if_check, if_dump, if_format, if_help, if_load, if_nothing, if_opens, if_opens_without_growing, if_refused, if_reset, if_serve, if_tables, is_check, is_load, is_refused, is_reset}
+use Rattle.surf_run.proofs.Asking.{has_settings_in_range, if_bad, if_build_map, if_check, if_dump, if_format, if_help, if_load, if_nothing, if_opens, if_opens_without_growing, if_refused, if_reset, if_serve, if_serve_map, if_tables, is_build_map, is_check, is_load, is_refused, is_reset, is_serve_map}
 use Rattle.surf_run.proofs.Chaining.{one_map_lasts}
 use Rattle.surf_run.proofs.Formats.{format_ends}
 use Rattle.surf_run.proofs.top.run.Goals as goal
@@ -56,7 +56,10 @@ returns g c =
       unopened = λ tells output nothing is. (if_opens words asked _ is asks by.ending).unopened tells output nothing;
       only_at_damage = λ tells input output five. elim (by.only_at_damage tells input output five) [
         | inl told ↦ inl told
-        | inr none ↦ inr (none.0, elim none.1 [ inl shown ↦ inl shown | inr unsaid ↦ inr (is_load words asked asks unsaid.0, unsaid.1) ])
+        | inr more ↦ elim more [
+          | inl none ↦ inr (inl (none.0, elim none.1 [ inl shown ↦ inl shown | inr unsaid ↦ inr (is_load words asked asks unsaid.0, unsaid.1) ]))
+          | inr of ↦ inr (inr (is_serve_map words asked asks of))
+        ]
       ];
       within = λ v tells is asked_for. if_opens words asked _ asked_for asks (by.within v tells is);
       told_of_damage = λ d tells damaged is. (if_opens words asked _ is asks by.ending).told_of_damage d tells damaged;
@@ -66,6 +69,9 @@ returns g c =
       check = λ is. if_check words asked _ is asks by.check;
       tables = λ is. if_tables words asked _ is asks by.tables;
       dump = λ is. if_dump words asked _ is asks by.dump;
+      map_built = λ is. if_build_map words asked _ is asks by.map_built;
+      map_served = λ is. if_serve_map words asked _ is asks by.map_served;
+      only_at_no_map = λ eleven. is_build_map words asked asks (by.at_eleven eleven);
       only_at_check = λ twelve. is_check words asked asks (by.at_twelve twelve);
       statuses = by.statuses;
     }

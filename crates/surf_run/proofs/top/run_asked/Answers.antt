@@ -14,11 +14,12 @@ use Rattle.surf_run.specs.Kind.{filter_kind}
 use Rattle.surf_run.specs.Loads.{IsLoading, LoadEnds, Loads}
 use Rattle.surf_run.specs.Open.{IsFreeText, IsOpeningText, OpeningEnds}
 use Rattle.surf_run.specs.Resetting.{IsResetEnd, IsResetting, OpenedThenReset, ResetEnds, TellsWhich}
-use Rattle.surf_run.specs.Run.{FormatEnds, IsBadSettingsText, IsHelpText, IsUsageText, usage_text}
+use Rattle.surf_run.specs.Run.{FormatEnds, IsBadSettingsText, IsHelpText, IsMemoryText, IsUsageText, usage_text}
 use Rattle.surf_run.specs.declared.new_numbers.NewNumbers.{NewNumbers}
-use Rattle.surf_run.proofs.Asking.{at_bad, at_check, at_dump, at_format, at_help, at_load, at_refused, at_serve, at_tables, check_is_asked, grow_opens, grow_opens_so, grow_is_reset, grow_reset, load_is_asked, load_opens, load_opens_so, memory_bad, memory_check, memory_dump, memory_help, memory_load, memory_opens, memory_refused, memory_reset, memory_serve, memory_tables, serve_opens, settings_in_its_range, settings_is_reset, settings_opens, settings_opens_so, settings_reset}
-use Rattle.surf_run.proofs.Checked.{check_as_statuses, checking_never_five, checking_never_ten, checking_never_three, checking_never_two, loading_never_twelve, memory_ends, reset_never_twelve, serving_never_twelve}
+use Rattle.surf_run.proofs.Asking.{at_bad, at_build_map, at_check, at_dump, at_format, at_help, at_load, at_refused, at_serve, at_serve_map, at_tables, build_map_is_asked, check_is_asked, grow_opens, grow_opens_so, grow_is_reset, grow_reset, load_is_asked, load_opens, load_opens_so, memory_bad, memory_build_map, memory_check, memory_dump, memory_help, memory_load, memory_opens, memory_refused, memory_reset, memory_serve, memory_serve_map, memory_tables, serve_map_is_asked, serve_opens, settings_in_its_range, settings_is_reset, settings_opens, settings_opens_so, settings_reset}
+use Rattle.surf_run.proofs.Checked.{check_as_statuses, checking_never_eleven, checking_never_five, checking_never_ten, checking_never_three, checking_never_two, loading_never_eleven, loading_never_twelve, memory_ends, reset_never_eleven, reset_never_twelve, serving_never_eleven, serving_never_twelve}
 use Rattle.surf_run.proofs.LoadEnds.{as_statuses, never_two}
+use Rattle.surf_run.proofs.MapRuns.{build_as_statuses, build_never, map_as_statuses, map_never}
 use Rattle.surf_run.proofs.NewNumbersSet.{loading_never_ten, never_two as reset_never_two, reset_as_statuses, serving_never_ten}
 use Rattle.surf_run.proofs.Readings.{memory_dump_end, memory_tables_end, reading_as_statuses, reading_never}
 use Rattle.surf_run.proofs.top.run_asked.Goals as goal
@@ -44,7 +45,7 @@ pub returns-in-Serve-clause-at_ten : goal.returns-in-Serve-clause-at_ten
 returns-in-Serve-clause-at_ten g c ten = absurd (serving_never_ten c.open_and_serve.result c.open_and_serve.ensures.statuses ten)
 
 pub returns-in-Serve-clause-only_at_damage : goal.returns-in-Serve-clause-only_at_damage
-returns-in-Serve-clause-only_at_damage g c tells input output five = elim (c.open_and_serve.ensures.only_at_damage tells input output five) [ inl told ↦ inl told | inr none ↦ inr (none.0, inl none.1) ]
+returns-in-Serve-clause-only_at_damage g c tells input output five = elim (c.open_and_serve.ensures.only_at_damage tells input output five) [ inl told ↦ inl told | inr none ↦ inr (inl (none.0, inl none.1)) ]
 
 pub returns-in-Load-clause-loaded : goal.returns-in-Load-clause-loaded
 returns-in-Load-clause-loaded g c s tells output now =
@@ -80,7 +81,7 @@ returns-in-Load-clause-only_at_no_store g c tells eight = load_opens_so c.args.a
 pub returns-in-Load-clause-only_at_damage : goal.returns-in-Load-clause-only_at_damage
 returns-in-Load-clause-only_at_damage g c tells input output five = elim (c.open_and_load.ensures.only_at_damage tells output five) [
   | inl told ↦ inl told
-  | inr none ↦ inr (none.0, elim none.1 [ inl shown ↦ inl shown | inr unsaid ↦ inr (load_is_asked c.args.asked c.in-Load.load c.in-Load.is, unsaid.1) ])
+  | inr none ↦ inr (inl (none.0, elim none.1 [ inl shown ↦ inl shown | inr unsaid ↦ inr (load_is_asked c.args.asked c.in-Load.load c.in-Load.is, unsaid.1) ]))
 ]
 
 pub returns-in-Load-clause-at_ten : goal.returns-in-Load-clause-at_ten
@@ -387,20 +388,35 @@ returns-in-Check-clause-only_at_damage g c tells input output five = absurd (che
 pub returns-in-Check-clause-at_ten : goal.returns-in-Check-clause-at_ten
 returns-in-Check-clause-at_ten g c ten = absurd (checking_never_ten c.run_check.result c.run_check.ensures.statuses ten)
 
+pub returns-in-Check-clause-at_eleven : goal.returns-in-Check-clause-at_eleven
+returns-in-Check-clause-at_eleven g c eleven = absurd (checking_never_eleven c.run_check.result c.run_check.ensures.statuses eleven)
+
 pub returns-in-Check-clause-statuses : goal.returns-in-Check-clause-statuses
 returns-in-Check-clause-statuses g c = check_as_statuses c.run_check.result c.run_check.ensures.statuses
 
 pub returns-in-Serve-clause-at_twelve : goal.returns-in-Serve-clause-at_twelve
 returns-in-Serve-clause-at_twelve g c twelve = absurd (serving_never_twelve c.open_and_serve.result c.open_and_serve.ensures.statuses twelve)
 
+pub returns-in-Serve-clause-at_eleven : goal.returns-in-Serve-clause-at_eleven
+returns-in-Serve-clause-at_eleven g c eleven = absurd (serving_never_eleven c.open_and_serve.result c.open_and_serve.ensures.statuses eleven)
+
 pub returns-in-Load-clause-at_twelve : goal.returns-in-Load-clause-at_twelve
 returns-in-Load-clause-at_twelve g c twelve = absurd (loading_never_twelve c.open_and_load.result c.open_and_load.ensures.statuses twelve)
+
+pub returns-in-Load-clause-at_eleven : goal.returns-in-Load-clause-at_eleven
+returns-in-Load-clause-at_eleven g c eleven = absurd (loading_never_eleven c.open_and_load.result c.open_and_load.ensures.statuses eleven)
 
 pub returns-in-Settings-clause-at_twelve : goal.returns-in-Settings-clause-at_twelve
 returns-in-Settings-clause-at_twelve g c twelve = absurd (reset_never_twelve c.open_and_reset.result c.open_and_reset.ensures.statuses twelve)
 
+pub returns-in-Settings-clause-at_eleven : goal.returns-in-Settings-clause-at_eleven
+returns-in-Settings-clause-at_eleven g c eleven = absurd (reset_never_eleven c.open_and_reset.result c.open_and_reset.ensures.statuses eleven)
+
 pub returns-in-Grow-clause-at_twelve : goal.returns-in-Grow-clause-at_twelve
 returns-in-Grow-clause-at_twelve g c twelve = absurd (reset_never_twelve c.open_and_reset-in-Grow.result c.open_and_reset-in-Grow.ensures.statuses twelve)
+
+pub returns-in-Grow-clause-at_eleven : goal.returns-in-Grow-clause-at_eleven
+returns-in-Grow-clause-at_eleven g c eleven = absurd (reset_never_eleven c.open_and_reset-in-Grow.result c.open_and_reset-in-Grow.ensures.statuses eleven)
 
 pub returns-in-Memory-clause-check : goal.returns-in-Memory-clause-check
 returns-in-Memory-clause-check g c =
@@ -431,6 +447,9 @@ returns-in-Tables-clause-at_ten g c ten = absurd (reading_never 10 c.run_tables.
 pub returns-in-Tables-clause-at_twelve : goal.returns-in-Tables-clause-at_twelve
 returns-in-Tables-clause-at_twelve g c twelve = absurd (reading_never 12 c.run_tables.result (λ e. cc) (λ e. cc) (λ e. cc) (λ e. cc) (λ e. cc) (λ e. cc) c.run_tables.ensures.reading.statuses twelve)
 
+pub returns-in-Tables-clause-at_eleven : goal.returns-in-Tables-clause-at_eleven
+returns-in-Tables-clause-at_eleven g c eleven = absurd (reading_never 11 c.run_tables.result (λ e. cc) (λ e. cc) (λ e. cc) (λ e. cc) (λ e. cc) (λ e. cc) c.run_tables.ensures.reading.statuses eleven)
+
 pub returns-in-Tables-clause-statuses : goal.returns-in-Tables-clause-statuses
 returns-in-Tables-clause-statuses g c = reading_as_statuses c.run_tables.result c.run_tables.ensures.reading.statuses
 
@@ -455,13 +474,16 @@ pub returns-in-Dump-clause-only_at_wrong_words : goal.returns-in-Dump-clause-onl
 returns-in-Dump-clause-only_at_wrong_words g c two = absurd (reading_never 2 c.run_dump.result (λ e. cc) (λ e. cc) (λ e. cc) (λ e. cc) (λ e. cc) (λ e. cc) c.run_dump.ensures.reading.statuses two)
 
 pub returns-in-Dump-clause-only_at_damage : goal.returns-in-Dump-clause-only_at_damage
-returns-in-Dump-clause-only_at_damage g c tells input output five = elim (c.run_dump.ensures.only_at_damage tells output five) [ inl told ↦ inl told | inr none ↦ inr (none.0, inl none.1) ]
+returns-in-Dump-clause-only_at_damage g c tells input output five = elim (c.run_dump.ensures.only_at_damage tells output five) [ inl told ↦ inl told | inr none ↦ inr (inl (none.0, inl none.1)) ]
 
 pub returns-in-Dump-clause-at_ten : goal.returns-in-Dump-clause-at_ten
 returns-in-Dump-clause-at_ten g c ten = absurd (reading_never 10 c.run_dump.result (λ e. cc) (λ e. cc) (λ e. cc) (λ e. cc) (λ e. cc) (λ e. cc) c.run_dump.ensures.reading.statuses ten)
 
 pub returns-in-Dump-clause-at_twelve : goal.returns-in-Dump-clause-at_twelve
 returns-in-Dump-clause-at_twelve g c twelve = absurd (reading_never 12 c.run_dump.result (λ e. cc) (λ e. cc) (λ e. cc) (λ e. cc) (λ e. cc) (λ e. cc) c.run_dump.ensures.reading.statuses twelve)
+
+pub returns-in-Dump-clause-at_eleven : goal.returns-in-Dump-clause-at_eleven
+returns-in-Dump-clause-at_eleven g c eleven = absurd (reading_never 11 c.run_dump.result (λ e. cc) (λ e. cc) (λ e. cc) (λ e. cc) (λ e. cc) (λ e. cc) c.run_dump.ensures.reading.statuses eleven)
 
 pub returns-in-Dump-clause-statuses : goal.returns-in-Dump-clause-statuses
 returns-in-Dump-clause-statuses g c = reading_as_statuses c.run_dump.result c.run_dump.ensures.reading.statuses
@@ -471,3 +493,79 @@ returns-in-Memory-clause-dump g c =
     memory_dump c.args.asked _ c.in-Memory.is
     (memory_dump_end g.F.RangeFilter.spelling g.F.RangeFilter.first_fault g.W.Disk.tells g.W.Outside.tells_output c.last_line.result (g.W.Disk.world c.args.out.now) (g.W.Disk.world c.last_line.new.out)
     (g.met.W.Outside.said_now c.args.out.now) c.last_line.ensures.moves (λ told. c.last_line.ensures.said told tt) c.last_line.ensures.prefix c.last_line.ensures.ends)
+
+-- ---- a static map
+
+pub returns-in-BuildMap-clause-map_built : goal.returns-in-BuildMap-clause-map_built
+returns-in-BuildMap-clause-map_built g c = at_build_map c.args.asked _ c.in-BuildMap.is (inl c.build.ensures)
+
+pub returns-in-BuildMap-clause-counts : goal.returns-in-BuildMap-clause-counts
+returns-in-BuildMap-clause-counts g c = c.build.ensures.counts
+
+pub returns-in-BuildMap-clause-causes : goal.returns-in-BuildMap-clause-causes
+returns-in-BuildMap-clause-causes g c = c.build.ensures.causes
+
+pub returns-in-BuildMap-clause-only_at_wrong_words : goal.returns-in-BuildMap-clause-only_at_wrong_words
+returns-in-BuildMap-clause-only_at_wrong_words g c two = absurd (build_never 2 c.build.result (λ e. cc) (λ e. cc) (λ e. cc) (λ e. cc) (λ e. cc) (λ e. cc) (λ e. cc) (λ e. cc) c.build.ensures.statuses two)
+
+pub returns-in-BuildMap-clause-only_at_damage : goal.returns-in-BuildMap-clause-only_at_damage
+returns-in-BuildMap-clause-only_at_damage g c tells input output five = absurd (build_never 5 c.build.result (λ e. cc) (λ e. cc) (λ e. cc) (λ e. cc) (λ e. cc) (λ e. cc) (λ e. cc) (λ e. cc) c.build.ensures.statuses five)
+
+pub returns-in-BuildMap-clause-at_ten : goal.returns-in-BuildMap-clause-at_ten
+returns-in-BuildMap-clause-at_ten g c ten = absurd (build_never 10 c.build.result (λ e. cc) (λ e. cc) (λ e. cc) (λ e. cc) (λ e. cc) (λ e. cc) (λ e. cc) (λ e. cc) c.build.ensures.statuses ten)
+
+pub returns-in-BuildMap-clause-at_eleven : goal.returns-in-BuildMap-clause-at_eleven
+returns-in-BuildMap-clause-at_eleven g c eleven = build_map_is_asked c.args.asked c.in-BuildMap.is
+
+pub returns-in-BuildMap-clause-at_twelve : goal.returns-in-BuildMap-clause-at_twelve
+returns-in-BuildMap-clause-at_twelve g c twelve = absurd (build_never 12 c.build.result (λ e. cc) (λ e. cc) (λ e. cc) (λ e. cc) (λ e. cc) (λ e. cc) (λ e. cc) (λ e. cc) c.build.ensures.statuses twelve)
+
+pub returns-in-BuildMap-clause-statuses : goal.returns-in-BuildMap-clause-statuses
+returns-in-BuildMap-clause-statuses g c = build_as_statuses c.build.result c.build.ensures.statuses
+
+pub returns-in-ServeMap-clause-map_served : goal.returns-in-ServeMap-clause-map_served
+returns-in-ServeMap-clause-map_served g c = at_serve_map c.args.asked _ c.in-ServeMap.is (inl c.serve.ensures)
+
+pub returns-in-ServeMap-clause-counts : goal.returns-in-ServeMap-clause-counts
+returns-in-ServeMap-clause-counts g c = c.serve.ensures.counts
+
+pub returns-in-ServeMap-clause-causes : goal.returns-in-ServeMap-clause-causes
+returns-in-ServeMap-clause-causes g c = c.serve.ensures.causes
+
+pub returns-in-ServeMap-clause-only_at_wrong_words : goal.returns-in-ServeMap-clause-only_at_wrong_words
+returns-in-ServeMap-clause-only_at_wrong_words g c two = absurd (map_never 2 c.serve.result (λ e. cc) (λ e. cc) (λ e. cc) (λ e. cc) (λ e. cc) (λ e. cc) (λ e. cc) (λ e. cc) c.serve.ensures.statuses two)
+
+pub returns-in-ServeMap-clause-only_at_damage : goal.returns-in-ServeMap-clause-only_at_damage
+returns-in-ServeMap-clause-only_at_damage g c tells input output five = inr (inr (serve_map_is_asked c.args.asked c.in-ServeMap.is))
+
+pub returns-in-ServeMap-clause-at_ten : goal.returns-in-ServeMap-clause-at_ten
+returns-in-ServeMap-clause-at_ten g c ten = absurd (map_never 10 c.serve.result (λ e. cc) (λ e. cc) (λ e. cc) (λ e. cc) (λ e. cc) (λ e. cc) (λ e. cc) (λ e. cc) c.serve.ensures.statuses ten)
+
+pub returns-in-ServeMap-clause-at_eleven : goal.returns-in-ServeMap-clause-at_eleven
+returns-in-ServeMap-clause-at_eleven g c eleven = absurd (map_never 11 c.serve.result (λ e. cc) (λ e. cc) (λ e. cc) (λ e. cc) (λ e. cc) (λ e. cc) (λ e. cc) (λ e. cc) c.serve.ensures.statuses eleven)
+
+pub returns-in-ServeMap-clause-at_twelve : goal.returns-in-ServeMap-clause-at_twelve
+returns-in-ServeMap-clause-at_twelve g c twelve = absurd (map_never 12 c.serve.result (λ e. cc) (λ e. cc) (λ e. cc) (λ e. cc) (λ e. cc) (λ e. cc) (λ e. cc) (λ e. cc) c.serve.ensures.statuses twelve)
+
+pub returns-in-ServeMap-clause-statuses : goal.returns-in-ServeMap-clause-statuses
+returns-in-ServeMap-clause-statuses g c = map_as_statuses c.serve.result c.serve.ensures.statuses
+
+pub returns-in-Memory-clause-map_built : goal.returns-in-Memory-clause-map_built
+returns-in-Memory-clause-map_built g c =
+    memory_build_map c.args.asked _ c.in-Memory.is (inr record {
+      ends = c.last_line.ensures.ends;
+      moves = c.last_line.ensures.moves;
+      said = λ output.
+          unserved IsMemoryText (g.W.Disk.world c.args.out.now) (g.W.Disk.world c.last_line.new.out) (g.met.W.Outside.said_now c.args.out.now) c.last_line.ensures.moves c.last_line.result 7 (text_of Memory) (refl, refl)
+          (c.last_line.ensures.prefix output) (c.last_line.ensures.said output tt) c.last_line.ensures.ends;
+    })
+
+pub returns-in-Memory-clause-map_served : goal.returns-in-Memory-clause-map_served
+returns-in-Memory-clause-map_served g c =
+    memory_serve_map c.args.asked _ c.in-Memory.is (inr record {
+      ends = c.last_line.ensures.ends;
+      moves = c.last_line.ensures.moves;
+      said = λ output.
+          unserved IsMemoryText (g.W.Disk.world c.args.out.now) (g.W.Disk.world c.last_line.new.out) (g.met.W.Outside.said_now c.args.out.now) c.last_line.ensures.moves c.last_line.result 7 (text_of Memory) (refl, refl)
+          (c.last_line.ensures.prefix output) (c.last_line.ensures.said output tt) c.last_line.ensures.ends;
+    })
